@@ -1,0 +1,2 @@
+-- What the contracts of `products` cite.
+pub mod Products

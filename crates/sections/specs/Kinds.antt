@@ -1,0 +1,89 @@
+-- The nine section kinds (01, "Framing" and "Values octets and the public copy"; the Manual's names). Assumes nothing.
+use Prim.Native.Nat.{ℕ}
+use mathlib.Core.List.{List, [], _∷_}
+use lib.Dec.{eqb}
+use Rattle.octets.specs.Choice.{pick}
+use Rattle.sections.specs.declared.kinds.Extent.{Extent}
+use Rattle.sections.specs.declared.kinds.Extent.the-variants.{WholeSize, LeastPayload}
+use Rattle.sections.specs.declared.kinds.Values.{Values}
+use Rattle.sections.specs.declared.kinds.Values.the-variants.{FromOctet, Nowhere}
+use Rattle.sections.specs.declared.kinds.Kind.{Kind}
+use Rattle.sections.specs.declared.kinds.MaybeKind.{MaybeKind}
+use Rattle.sections.specs.declared.kinds.MaybeKind.the-variants.{Known, Unknown}
+use Rattle.sections.specs.declared.kinds.LeastPayload.{LeastPayload as LeastOf}
+use Rattle.sections.specs.declared.kinds.LeastPayload.the-variants.{Octets, NoHeader}
+
+-- a row: number, size, and the octet from which on a section carries values, counted from 1
+abbrev pub kind : ℕ → Extent → Values → Kind
+kind number extent values = record { number = number; extent = extent; values = values }
+
+-- 0, the indicator section: no header, 16 octets
+abbrev pub indicator : Kind
+indicator = kind 0 (WholeSize 16) Nowhere
+
+-- 1, the identification section
+abbrev pub identification : Kind
+identification = kind 1 (LeastPayload 16) Nowhere
+
+-- 2, the local use section
+abbrev pub localUse : Kind
+localUse = kind 2 (LeastPayload 0) (FromOctet 6)
+
+-- 3, the grid definition section
+abbrev pub gridDefinition : Kind
+gridDefinition = kind 3 (LeastPayload 9) Nowhere
+
+-- 4, the product definition section
+abbrev pub prodDefinition : Kind
+prodDefinition = kind 4 (LeastPayload 4) Nowhere
+
+-- 5, the data representation section: its first 11 octets are no values
+abbrev pub reprDefinition : Kind
+reprDefinition = kind 5 (LeastPayload 6) (FromOctet 12)
+
+-- 6, the bit-map section: its first 6 octets are no values
+abbrev pub bitMap : Kind
+bitMap = kind 6 (LeastPayload 1) (FromOctet 7)
+
+-- 7, the data section
+abbrev pub dataSection : Kind
+dataSection = kind 7 (LeastPayload 0) (FromOctet 6)
+
+-- 8, the end section: no header, 4 octets
+abbrev pub endSection : Kind
+endSection = kind 8 (WholeSize 4) Nowhere
+
+-- all of them
+unfoldable pub kinds : List Kind
+kinds =
+    indicator ∷ identification ∷ localUse ∷ gridDefinition ∷ prodDefinition ∷ reprDefinition ∷ bitMap ∷ dataSection ∷ endSection ∷ []
+
+-- the kind of a list that has the number
+abbrev pub kindAmong : ℕ → List Kind → MaybeKind
+kindAmong n [] = Unknown
+kindAmong n (k ∷ more) = let later = kindAmong n more in pick (eqb n (k .number)) (Known k) later
+
+-- the kind that has the number
+unfoldable pub kindOf : ℕ → MaybeKind
+kindOf n = kindAmong n kinds
+
+-- the least payload of a size, if there is a header
+abbrev pub leastOf : Extent → LeastOf
+leastOf (LeastPayload octets) = Octets octets
+leastOf (WholeSize octets) = NoHeader
+
+abbrev leastIn : MaybeKind → LeastOf
+leastIn (Known k) = leastOf (k .extent)
+leastIn Unknown = NoHeader
+
+-- the least payload of the sections with the number, if they have a header
+unfoldable pub leastPayloadOf : ℕ → LeastOf
+leastPayloadOf n = leastIn (kindOf n)
+
+abbrev valuesIn : MaybeKind → Values
+valuesIn (Known k) = k .values
+valuesIn Unknown = Nowhere
+
+-- where the sections with the number carry values
+unfoldable pub valuesOf : ℕ → Values
+valuesOf n = valuesIn (kindOf n)

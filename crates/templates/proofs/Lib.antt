@@ -1,0 +1,2 @@
+-- What the proofs of `templates` share: what a table of ranges says of a whole interval.
+pub mod Ranges

@@ -1,0 +1,3 @@
+-- What the contracts of `templates` cite: tables of ranges, and the four tables of product definition templates.
+pub mod Ranges
+pub mod Templates
