@@ -11,11 +11,14 @@ use crate::unread::DataSection;
 use crate::unread::EndSection;
 use crate::unread::LocalUse;
 
+// The octets of a header: a length of four, and a number.
+pub const HEADER_SIZE: usize = 5;
+
 // How large a section of a kind is, in octets.
 pub enum Extent {
     // No header: every section of the kind has this size.
     WholeSize(usize),
-    // A header of 5 octets, and a payload of at least this size.
+    // A header, and a payload of at least this size.
     LeastPayload(usize),
 }
 

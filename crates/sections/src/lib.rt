@@ -19,6 +19,7 @@ pub use identification::MaybeIdentification;
 pub use indicator::Indicator;
 pub use indicator::MaybeIndicator;
 pub use kinds::Extent;
+pub use kinds::HEADER_SIZE;
 pub use kinds::Kind;
 pub use kinds::LeastPayload;
 pub use kinds::MaybeKind;

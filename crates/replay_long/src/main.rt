@@ -1,0 +1,4 @@
+// `replay` over a stored input of one octet too many.
+fn main() {
+    replaying::run();
+}

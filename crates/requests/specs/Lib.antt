@@ -1,0 +1,2 @@
+-- What the contracts of `requests` and `replaying` cite.
+pub mod Requests

@@ -1,0 +1,41 @@
+-- The requests of an input, in docs/REPLAY.md's words and order: one kind octet, then numbers, then octets. Assumes nothing.
+use Prim.Native.Nat.{ℕ, _+_}
+use mathlib.Core.List.{List}
+use lib.Dec.{eqb, ltb, leb}
+use lib.ListN.{length, getD}
+use Rattle.octets.specs.Choice.{pick}
+use Rattle.octets.specs.BigEndian.{beAt}
+use Rattle.requests.specs.declared.Request.{Request}
+use Rattle.requests.specs.declared.Request.the-variants.{Fields, Signed, Bad}
+
+-- a request that runs to `to`, unless the end of the input cuts it
+abbrev pub whole : List ℕ → ℕ → Request → Request
+whole input to request = pick (ltb (length input) to) Bad request
+
+-- `F`: section number (1); length (4); the payload
+unfoldable pub fieldsAt : List ℕ → ℕ → Request
+fieldsAt input at =
+    let from = at + 6 in
+    let to = from + beAt input (at + 2) 4 in
+    whole input to (Fields (getD input (at + 1) 0) from to)
+
+-- `S`: length (1); the octets
+unfoldable pub signedAt : List ℕ → ℕ → Request
+signedAt input at =
+    let from = at + 2 in
+    let to = from + getD input (at + 1) 0 in
+    whole input to (Signed from to)
+
+-- the request of a kind octet at `at`: 70 is `F`, 83 is `S`, another kind is bad
+abbrev pub ofKind : ℕ → List ℕ → ℕ → Request
+ofKind kind input at = pick (eqb kind 70) (fieldsAt input at) (pick (eqb kind 83) (signedAt input at) Bad)
+
+-- the request at `at`; where the input has no octet, a bad one
+unfoldable pub requestAt : List ℕ → ℕ → Request
+requestAt input at = pick (leb (length input) at) Bad (ofKind (getD input at 0) input at)
+
+-- where the next request starts; a bad one ends the run, so at the input's end
+unfoldable pub placeAfter : List ℕ → Request → ℕ
+placeAfter input (Fields number from to) = to
+placeAfter input (Signed from to) = to
+placeAfter input Bad = length input

@@ -1,0 +1,89 @@
+// Requests, read off the input (docs/REPLAY.md, the table of kinds). A kind is one case of `Request`, one
+// function that reads it and one arm of `request_at`.
+ghost use mathlib.Core.Path.{_≡_};
+ghost use Prim.Native.Nat.{_+_, _<_, _≤_};
+ghost use lib.ListN.{length};
+ghost use Rattle.octets.specs.BigEndian.{beAt};
+ghost use Rattle.requests.specs.Requests.{requestAt, fieldsAt, signedAt};
+use octets::be32;
+
+const FIELDS: u8 = b'F';
+
+const SIGNED: u8 = b'S';
+
+// Octets before a payload: kind, section number, length.
+const FIELDS_HEAD: usize = 6;
+
+// Octets before a signed number's: kind, length.
+const SIGNED_HEAD: usize = 2;
+
+// A request's octets are those of the input from `from` up to `to`, where the next request starts.
+pub enum Request {
+    Fields { number: u8, from: usize, to: usize },
+    Signed { from: usize, to: usize },
+    // Of another kind, or cut by the end of the input: nothing after it can be told.
+    Bad,
+}
+
+// The request that starts at octet `at`; where the input has no such octet, a bad one.
+pub fn request_at(input: &[u8], at: usize) -> Request
+    ensures { λ r. ⌜ r ≡ requestAt (now (input .entry)) at ⌝ }
+{
+    if input.len() <= at {
+        return Request::Bad;
+    }
+    let kind = input[at];
+    match kind {
+        FIELDS => fields_at(input, at),
+        SIGNED => signed_at(input, at),
+        _ => Request::Bad,
+    }
+}
+
+// The number that the four octets from `at` on write.
+fn four_octets(input: &[u8], at: usize) -> u32
+    requires { ⌜ at + 4 ≤ length (now input) ⌝ }
+    ensures { λ r. ⌜ r ≡ beAt (now (input .entry)) at 4 ⌝ }
+{
+    be32([input[at], input[at + 1], input[at + 2], input[at + 3]])
+}
+
+// Section number (1); length (4); the payload. What is left of the input is tested before each sum, so
+// that none can wrap.
+fn fields_at(input: &[u8], at: usize) -> Request
+    requires { ⌜ at < length (now input) ⌝ }
+    ensures { λ r. ⌜ r ≡ fieldsAt (now (input .entry)) at ⌝ }
+{
+    if input.len() - at < FIELDS_HEAD {
+        return Request::Bad;
+    }
+    let from = at + FIELDS_HEAD;
+    let size = four_octets(input, at + 2) as usize;
+    if input.len() - from < size {
+        return Request::Bad;
+    }
+    Request::Fields {
+        number: input[at + 1],
+        from,
+        to: from + size,
+    }
+}
+
+// Length (1); the octets.
+fn signed_at(input: &[u8], at: usize) -> Request
+    requires { ⌜ at < length (now input) ⌝ }
+    ensures { λ r. ⌜ r ≡ signedAt (now (input .entry)) at ⌝ }
+{
+    if input.len() - at < SIGNED_HEAD {
+        return Request::Bad;
+    }
+    let from = at + SIGNED_HEAD;
+    let size = input[at + 1] as usize;
+    if input.len() - from < size {
+        return Request::Bad;
+    }
+    Request::Signed {
+        from,
+        to: from + size,
+    }
+}
