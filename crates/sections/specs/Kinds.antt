@@ -72,7 +72,8 @@ abbrev pub leastOf : Extent → LeastOf
 leastOf (LeastPayload octets) = Octets octets
 leastOf (WholeSize octets) = NoHeader
 
-abbrev leastIn : MaybeKind → LeastOf
+-- the same of what may be a kind
+abbrev pub leastIn : MaybeKind → LeastOf
 leastIn (Known k) = leastOf (k .extent)
 leastIn Unknown = NoHeader
 
@@ -80,7 +81,7 @@ leastIn Unknown = NoHeader
 unfoldable pub leastPayloadOf : ℕ → LeastOf
 leastPayloadOf n = leastIn (kindOf n)
 
-abbrev valuesIn : MaybeKind → Values
+abbrev pub valuesIn : MaybeKind → Values
 valuesIn (Known k) = k .values
 valuesIn Unknown = Nowhere
 

@@ -1,0 +1,210 @@
+// One read.
+ghost use mathlib.Core.Path.{_≡_};
+ghost use Prim.Native.Nat.{_+_, _^_, _<_, _≤_};
+ghost use lib.ListN.{length};
+ghost use Rattle.sections.specs.Kinds.{leastPayloadOf};
+ghost use Rattle.framing.specs.Framing.{section, refused, indicatorAt, endAt, isCut, payloadAt, headerAt, readAt};
+use crate::search::Found;
+use crate::search::next_start;
+use crate::search::says;
+use octets::be32;
+use octets::be64;
+use sections::BitMap;
+use sections::DataSection;
+use sections::EndSection;
+use sections::HEADER_SIZE;
+use sections::Indicator;
+use sections::LeastPayload;
+use sections::least_payload_of;
+
+// An octet of the file, counted from 0. A section's place in the list is another quantity.
+pub struct Offset(pub u64);
+
+// A section as the table lists it.
+pub struct Section {
+    pub number: u64,
+    pub offset: Offset,
+    pub length: u64,
+}
+
+// Where the next read is made, and how many octets of the message are still to come.
+pub struct Cursor {
+    pub at: Offset,
+    pub rest: u64,
+}
+
+// Why a section can't be read, in the order of document 01's refusals 2 to 9.
+pub enum Fault {
+    // The file ends inside a header, inside section 8 or inside a payload that is read.
+    Cut,
+    // The edition is not 2.
+    OtherEdition(u8),
+    // The total length has no room for section 0 itself.
+    TotalUnder16,
+    // Section 8 is not "7777".
+    NotEndMark,
+    // The length has no room for the header itself.
+    LengthUnder5(u32),
+    // The number in a header is not 1 to 7.
+    UnknownNumber(u8),
+    // The payload, of this size, is under its kind's least.
+    PayloadUnderLeast(u32),
+    // The section, of this length, is longer than what its message has left.
+    LongerThanRest(u32),
+}
+
+pub enum Read {
+    Section(Section, Cursor),
+    Over,
+    Refused(Fault, Offset),
+}
+
+fn refuse(fault: Fault, at: usize) -> Read
+    ensures { λ r. ⌜ r ≡ refused fault at ⌝ }
+{
+    Read::Refused(fault, Offset(at as u64))
+}
+
+fn section_at(number: u64, at: usize, length: u32, rest: u64) -> Read
+    requires { ⌜ at + length < 2 ^ 64 ⌝ }
+    ensures { λ r. ⌜ r ≡ section number at length rest ⌝ }
+{
+    let offset = at as u64;
+    let octets = length as u64;
+    Read::Section(
+        Section {
+            number,
+            offset: Offset(offset),
+            length: octets,
+        },
+        Cursor {
+            at: Offset(offset + octets),
+            rest,
+        },
+    )
+}
+
+// Section 0, from its G on.
+fn indicator_at(file: &[u8], g: usize) -> Read
+    requires { ⌜ g + 16 ≤ length (now file) ⌝ }
+    ensures { λ r. ⌜ r ≡ indicatorAt (now (file .entry)) g ⌝ }
+{
+    let edition = file[g + 7];
+    if edition != 2 {
+        return refuse(Fault::OtherEdition(edition), g);
+    }
+    let total = be64([
+        file[g + 8],
+        file[g + 9],
+        file[g + 10],
+        file[g + 11],
+        file[g + 12],
+        file[g + 13],
+        file[g + 14],
+        file[g + 15],
+    ]);
+    if total < Indicator::WHOLE_SIZE as u64 {
+        return refuse(Fault::TotalUnder16, g);
+    }
+    section_at(
+        Indicator::NUMBER,
+        g,
+        Indicator::WHOLE_SIZE as u32,
+        total - Indicator::WHOLE_SIZE as u64,
+    )
+}
+
+// Section 8, where at least one octet is left.
+fn end_at(file: &[u8], at: usize) -> Read
+    requires { ⌜ at ≤ length (now file) ⌝ }
+    ensures { λ r. ⌜ r ≡ endAt (now (file .entry)) at ⌝ }
+{
+    if file.len() - at < EndSection::WHOLE_SIZE {
+        return refuse(Fault::Cut, at);
+    }
+    if says(file, at, b'7', b'7', b'7', b'7') {
+        section_at(EndSection::NUMBER, at, EndSection::WHOLE_SIZE as u32, 0)
+    } else {
+        refuse(Fault::NotEndMark, at)
+    }
+}
+
+// Does the file, with so many octets left from the header on, end inside the payload? Section 7 is skipped unread;
+// of a section 6 the indicator is read whatever its length says.
+fn is_cut(number: u64, length: u32, left: usize) -> bool
+    ensures { λ r. ⌜ r ≡ isCut number length left ⌝ }
+{
+    if number == DataSection::NUMBER {
+        return false;
+    }
+    if left < length as usize {
+        return true;
+    }
+    if number == BitMap::NUMBER {
+        return left < HEADER_SIZE + BitMap::LEAST_PAYLOAD;
+    }
+    false
+}
+
+// A section whose header says its number and its length, of which the header itself is a part.
+fn payload_at(at: usize, number: u8, length: u32, left: usize, rest: u64) -> Read
+    requires { ⌜ (at + length < 2 ^ 64) × (5 ≤ length) ⌝ }
+    ensures { λ r. ⌜ r ≡ payloadAt (leastPayloadOf number) at number length left rest ⌝ }
+{
+    let known = least_payload_of(number as u64);
+    let LeastPayload::Octets(least) = known else {
+        return refuse(Fault::UnknownNumber(number), at);
+    };
+    if is_cut(number as u64, length, left) {
+        return refuse(Fault::Cut, at);
+    }
+    let payload = length - HEADER_SIZE as u32;
+    if (payload as usize) < least {
+        return refuse(Fault::PayloadUnderLeast(payload), at);
+    }
+    if rest < length as u64 {
+        return refuse(Fault::LongerThanRest(length), at);
+    }
+    section_at(number as u64, at, length, rest - length as u64)
+}
+
+// A section with a header, where at least one octet is left.
+fn header_at(file: &[u8], at: usize, rest: u64) -> Read
+    requires { ⌜ at ≤ length (now file) ⌝ }
+    ensures { λ r. ⌜ r ≡ headerAt (now (file .entry)) at rest ⌝ }
+{
+    let left = file.len() - at;
+    if left < HEADER_SIZE {
+        return refuse(Fault::Cut, at);
+    }
+    let length = be32([file[at], file[at + 1], file[at + 2], file[at + 3]]);
+    if length < HEADER_SIZE as u32 {
+        return refuse(Fault::LengthUnder5(length), at);
+    }
+    payload_at(at, file[at + 4], length, left, rest)
+}
+
+// What stands at the cursor: between messages (rest 0) the next section 0, else section 8 where just its size is
+// left, else a section with a header.
+pub fn read_at(file: &[u8], cursor: Cursor) -> Read
+    ensures { λ r. ⌜ r ≡ readAt (now (file .entry)) (cursor .at .0) (cursor .rest) ⌝ }
+{
+    let offset = cursor.at;
+    let rest = cursor.rest;
+    let at = offset.0 as usize;
+    if rest == 0 {
+        let found = next_start(file, at);
+        return match found {
+            Found::At(g) => indicator_at(file, g),
+            Found::Nowhere => Read::Over,
+        };
+    }
+    if file.len() <= at {
+        return Read::Over;
+    }
+    if rest == EndSection::WHOLE_SIZE as u64 {
+        end_at(file, at)
+    } else {
+        header_at(file, at, rest)
+    }
+}
