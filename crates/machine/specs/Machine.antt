@@ -20,6 +20,10 @@ use Rattle.state.specs.declared.walk.Listed.{Listed}
 use Rattle.state.specs.declared.walk.Walk.{Walk}
 use Rattle.machine.specs.declared.Room.{Room}
 
+-- where no table is lent: more room than any file asks for
+abbrev pub unlimited : Room
+unlimited = record { rows = 18446744073709551615; lines = 18446744073709551615 }
+
 -- the section just read is refused
 abbrev pub refuseAt : Walk → Refusal → Listed → Walk
 refuseAt w why s = refuse w why (s .place) (s .section .offset)

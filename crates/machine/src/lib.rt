@@ -1,7 +1,7 @@
 // One step of the walk (document 01, "Order" and "Refusal numbers"; the crate's Grib2SubmessageStream): a section is
 // read, judged and told. All deciding is here, over a state by value and the tables' room as two numbers.
 ghost use mathlib.Core.Path.{_≡_};
-ghost use Rattle.machine.specs.Machine.{refuseAt, fittedOf, closedOf, judgedOf, completedOf, takenOf, overOf, advanceOf, startOf};
+ghost use Rattle.machine.specs.Machine.{unlimited, refuseAt, fittedOf, closedOf, judgedOf, completedOf, takenOf, overOf, advanceOf, startOf};
 use framing::Cursor;
 use framing::Offset;
 use framing::Read;
@@ -30,6 +30,16 @@ pub const MOST_OCTETS: u64 = 1099511627776;
 pub struct Room {
     pub rows: u64,
     pub lines: u64,
+}
+
+// The room where no table is lent: none is ever full.
+pub fn unlimited() -> Room
+    ensures { λ r. ⌜ r ≡ unlimited ⌝ }
+{
+    Room {
+        rows: u64::MAX,
+        lines: u64::MAX,
+    }
 }
 
 // The section just read is refused.

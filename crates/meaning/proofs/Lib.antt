@@ -1,0 +1,2 @@
+-- `Judged`: a step of the machine does what the judgement of its section says.
+pub mod Judged
