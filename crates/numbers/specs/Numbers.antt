@@ -3,10 +3,11 @@
 use Prim.Native.Nat.{ℕ}
 use Rattle.framing.specs.declared.read.Fault.{Fault}
 use Rattle.framing.specs.declared.read.Fault.the-variants as fault
+use Rattle.numbers.specs.declared.End.{End}
 use Rattle.state.specs.declared.refusal.Refusal.{Refusal}
 use Rattle.state.specs.declared.refusal.Refusal.the-variants as refusal
 use Rattle.state.specs.declared.refusal.Outcome.{Outcome}
 use Rattle.state.specs.declared.refusal.Outcome.the-variants as outcome
 
 -- 2 to 9
 unfoldable pub faultNumber : Fault → ℕ
@@ -47,13 +48,6 @@ refusalDetail (refusal.Misplaced number) = number
 refusalDetail (refusal.NoGrid number) = number
 refusalDetail refusal.SectionTableFull = 0
 refusalDetail refusal.SubmessageTableFull = 0
-
--- outcome, place, offset, detail
-pub record End : Type 0 where
-  pub outcome : ℕ
-  pub place : ℕ
-  pub offset : ℕ
-  pub detail : ℕ
 
 -- at 0 the last three are 0
 unfoldable pub endOf : Outcome → End

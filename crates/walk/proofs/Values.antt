@@ -1,0 +1,39 @@
+-- The machine values of a state and of a line, that their numbers fit, and a function's locals. Assumes nothing.
+use Prim.Native.Nat.{ℕ, zero, suc}
+use mathlib.Core.List.{[], _∷_, List}
+use mir.Syntax.{Ty, Local, local, tyUnit}
+use mir.Val.{Val}
+use denote.Laws.{Is}
+use denote.Struct.Laws as LL
+use Rattle.lines.specs.declared.Line.{Line}
+use Rattle.lines.proofs.Line as T
+use Rattle.lines.proofs.Line.Laws as T′
+use Rattle.state.specs.declared.walk.Walk.{Walk}
+use Rattle.state.proofs.walk.Walk as S
+use Rattle.state.proofs.walk.Walk.Laws as S′
+
+-- of a state; it stays shut in a walk, which would compute it at every step
+unfoldable pub walkVal : Walk → Val
+walkVal w = LL.val S.the-type S′.the-laws w
+
+abbrev pub WalkIs : Walk → Type 0
+WalkIs w = Is S.the-row w (LL.vals S.the-type S′.the-laws w)
+
+-- of a line
+abbrev pub lineVal : Line → Val
+lineVal l = LL.val T.the-type T′.the-laws l
+
+abbrev pub LineIs : Line → Type 0
+LineIs l = Is T.the-row l (LL.vals T.the-type T′.the-laws l)
+
+-- locals at their blocks
+abbrev pub envAt : List Local → List ℕ → List (Ty × ℕ)
+envAt [] blocks = []
+envAt (local type kind ∷ more) [] = []
+envAt (local type kind ∷ more) (block ∷ blocks) = (type, block) ∷ envAt more blocks
+
+-- the type of a local
+abbrev pub typeOf : List Local → ℕ → Ty
+typeOf [] i = tyUnit
+typeOf (local type kind ∷ more) zero = type
+typeOf (local type kind ∷ more) (suc i) = typeOf more i
