@@ -1,0 +1,202 @@
+"""The section walk by document 01, read plainly: it says the answers that the stored lists expect.
+
+Written from document 01, with the project's reading where 01 leaves two; it shares nothing with the
+library. Headings and words are 01's.
+"""
+
+from math import inf
+from typing import NamedTuple
+
+# --- Framing -------------------------------------------------------------------------------------
+
+LARGEST_FILE = 2**40
+LEAST = {1: 16, 2: 0, 3: 9, 4: 4, 5: 6, 6: 1, 7: 0}
+
+
+class Section(NamedTuple):
+    number: int
+    offset: int
+    length: int
+
+
+class InputOver(Exception):
+    """The input is over. Whether that is a clean end or 10 is for the order to say."""
+
+
+class Unread(Exception):
+    """The section in hand can't be read: one of the refusals 2 to 9."""
+
+    def __init__(self, outcome, offset, detail=0):
+        super().__init__(outcome, offset, detail)
+        self.outcome, self.offset, self.detail = outcome, offset, detail
+
+
+def unsigned(octets):
+    return int.from_bytes(octets, "big")
+
+
+def read_section_0(file, at):
+    """The next message's section 0, and its total length."""
+    start = file.find(b"GRIB", at)
+    # The first "GRIB" has the most octets behind it: if it has too few, so have all others.
+    if start < 0 or len(file) - start < 16:
+        raise InputOver
+    edition, total = file[start + 7], unsigned(file[start + 8:start + 16])
+    if edition != 2:
+        raise Unread(3, start, edition)
+    if total < 16:
+        raise Unread(4, start)
+    return Section(0, start, 16), total
+
+
+def read_section_8(file, at):
+    octets = file[at:at + 4]
+    if not octets:
+        raise InputOver
+    if len(octets) < 4:
+        raise Unread(2, at)
+    if octets != b"7777":
+        raise Unread(5, at)
+    return Section(8, at, 4)
+
+
+def payload_cut(number, payload, left):
+    """Section 7 is skipped unread; section 6 wants its first octet even of an empty payload."""
+    if number == 7:
+        return False
+    return left < (max(payload, 1) if number == 6 else payload)
+
+
+def read_section_1_to_7(file, at, rest):
+    header = file[at:at + 5]
+    if not header:
+        raise InputOver
+    if len(header) < 5:
+        raise Unread(2, at)
+    length, number = unsigned(header[:4]), header[4]
+    if length < 5:
+        raise Unread(6, at, length)
+    if number not in LEAST:
+        raise Unread(7, at, number)
+    payload = length - 5
+    if payload_cut(number, payload, left=len(file) - (at + 5)):
+        raise Unread(2, at)
+    if payload < LEAST[number]:
+        raise Unread(8, at, payload)
+    if length > rest:
+        raise Unread(9, at, length)
+    return Section(number, at, length)
+
+
+def well_read_sections(file):
+    """Each well-read section in turn. They end by InputOver or Unread, never by themselves."""
+    at, rest = 0, 0
+    while True:
+        if rest == 0:
+            section, rest = read_section_0(file, at)
+        elif rest == 4:
+            section = read_section_8(file, at)
+        else:
+            section = read_section_1_to_7(file, at, rest)
+        yield section
+        at = section.offset + section.length
+        rest -= section.length
+
+
+# --- Order ---------------------------------------------------------------------------------------
+
+MESSAGE_START, SUBMESSAGE_START = "message start", "submessage start"
+
+# The numbers that can come next, by the number before them or by what is about to start.
+CAN_COME = {MESSAGE_START: {0}, 0: {1}, 1: {2, 3}, 2: {3}, 3: {4}, 4: {5}, 5: {6}, 6: {7}, 7: {8},
+            SUBMESSAGE_START: {2, 3, 4}}
+
+
+class Line(NamedTuple):
+    message: int
+    submessage: int
+    places: tuple       # of sections 0 to 8; None for no section 2, the ninth 0 for "goes on"
+
+
+class Walk:
+    """What is stored after some sections, and where in the order the last of them stands."""
+
+    def __init__(self, row_room, line_room):
+        self.row_room, self.line_room = row_room, line_room
+        self.rows, self.lines, self.messages = [], [], 0
+        self.outcome, self.place, self.offset, self.detail = 0, 0, 0, 0
+        self.start_message()
+
+    def start_message(self):
+        self.after = MESSAGE_START
+        self.submessage = 0
+        self.in_force = [None] * 9      # places of the message's sections, by number
+
+    def take(self, section):
+        """Lists a well-read section and answers 0; or answers the refusal, 11 to 14."""
+        closing = self.after == 7 and section.number == 8
+        if self.after == 7 and not closing:
+            if len(self.lines) == self.line_room:
+                return 14
+            self.complete_submessage(0)
+            self.after = SUBMESSAGE_START
+        if section.number not in CAN_COME[self.after]:
+            return 12 if (self.after, section.number) == (1, 4) else 11
+        if len(self.rows) == self.row_room:
+            return 13
+        if closing and len(self.lines) == self.line_room:
+            return 14
+        self.list_section(section)
+        return 0
+
+    def list_section(self, section):
+        place = len(self.rows)
+        self.rows.append(section)
+        self.in_force[section.number] = place
+        self.after = section.number
+        if section.number == 8:
+            self.complete_submessage(place)
+            self.messages += 1
+            self.start_message()
+
+    def complete_submessage(self, end_place):
+        places = tuple(self.in_force[:8]) + (end_place,)
+        self.lines.append(Line(self.messages, self.submessage, places))
+        self.submessage += 1
+
+    def refuse(self, outcome, place, offset, detail=0):
+        self.outcome, self.place, self.offset, self.detail = outcome, place, offset, detail
+
+
+def walk(file, row_room=inf, line_room=inf):
+    """The answer to a file, with tables that have room for so many rows and lines."""
+    done = Walk(row_room, line_room)
+    if len(file) > LARGEST_FILE:
+        done.refuse(1, 0, 0)
+        return done
+    try:
+        for section in well_read_sections(file):
+            refusal = done.take(section)
+            if refusal:
+                detail = section.number if refusal in (11, 12) else 0
+                done.refuse(refusal, len(done.rows), section.offset, detail)
+                break
+    except Unread as unread:
+        done.refuse(unread.outcome, len(done.rows), unread.offset, unread.detail)
+    except InputOver:
+        if done.after != MESSAGE_START:
+            done.refuse(10, len(done.rows) - 1, done.rows[-1].offset)
+    return done
+
+
+# --- The pull reader -----------------------------------------------------------------------------
+
+def pull(file):
+    """What one call after another answers: a word and its numbers. It never runs dry."""
+    done = walk(file)
+    for section in done.rows:
+        yield ("passed", *section)
+    if done.outcome:
+        yield "refused", done.outcome, done.place, done.offset, done.detail
+    while True:
+        yield ("ended",)
