@@ -1,0 +1,2 @@
+-- What the contract of `desk` cites.
+pub mod Desk
