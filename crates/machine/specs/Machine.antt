@@ -1,8 +1,7 @@
--- Machinery: one step of the walk, and the steps from a start on. What a walk means stands in the crate `walk`. Assumes nothing.
-use Prim.Native.Nat.{ℕ, zero, suc, _-_}
+-- Machinery: one step of the walk. What a walk means stands in the crate `meaning`. Assumes nothing.
+use Prim.Native.Nat.{ℕ}
 use mathlib.Core.List.{List}
 use lib.Dec.{ltb, leb}
-use lib.ListN.{length}
 use Rattle.octets.specs.Choice.{pick}
 use Rattle.order.specs.Order.{judged, completes, isBetween}
 use Rattle.order.specs.declared.Order.{Order}
@@ -82,10 +81,3 @@ unfoldable pub startOf : ℕ → Walk
 startOf octets =
     pick (ltb 1099511627776 octets) (refuse unstarted refusal.FileTooLong (place 0) (record { 0 = 0 }))
     unstarted
-
--- at most so many steps, while the walk goes on
-unfoldable pub stepsOf : ℕ → List ℕ → Room → Walk → Walk
-stepsOf zero file room w = w
-stepsOf (suc steps) file room w =
-    let later = stepsOf steps file room (advanceOf file room w) in
-    pick (w .going) later w

@@ -1,4 +1,4 @@
--- Machinery: how one step changes the state that the code threads. What a walk means stands in the crate `walk`, which
+-- Machinery: how one step changes the state that the code threads. What a walk means stands in the crate `meaning`, which
 -- proves that running this machine gives it. Assumes nothing.
 use Prim.Native.Nat.{ℕ, _+_}
 use mathlib.Core.Bool.{true, false}
