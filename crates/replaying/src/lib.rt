@@ -1,7 +1,9 @@
 // `replay`: requests on standard input, answers on standard output (docs/REPLAY.md). Reading a request is the
-// crate `requests`, asking the library and printing is `answers`; the programs are a `main` over `run`.
+// crate `requests`, asking the library and printing is `answers`, `walks` and `pulls`; the programs are a `main` over
+// `run`.
 mod answers;
-mod print;
+mod pulls;
+mod walks;
 
 ghost use mathlib.Core.Path.{_≡_};
 ghost use Prim.Native.Nat.{_-_, _<_, _≤_};
@@ -12,8 +14,10 @@ use answers::answer_fields;
 use answers::answer_long;
 use answers::answer_signed;
 use libc::STDIN_FILENO;
+use pulls::answer_pull;
 use requests::Request;
 use requests::request_at;
+use walks::answer_walk;
 
 const MOST_INPUT: usize = 262_144;
 
@@ -54,6 +58,19 @@ fn answer_at(input: &[u8], at: usize) -> usize
 {
     let request = request_at(input, at);
     match request {
+        Request::Walk {
+            numbers,
+            lines,
+            from,
+            to,
+        } => {
+            answer_walk(between(input, from, to), numbers, lines);
+            to
+        }
+        Request::Pull { from, to } => {
+            answer_pull(between(input, from, to));
+            to
+        }
         Request::Fields { number, from, to } => {
             answer_fields(number, between(input, from, to));
             to

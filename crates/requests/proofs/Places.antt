@@ -1,5 +1,5 @@
--- The laws of requests: of each kind, that it is bad where its end lies past the input's, and itself where not, and that
--- its octets then stand inside the input, behind its kind octet. So each request starts behind the last. Assumes nothing.
+-- The laws of requests: of each kind, that it is bad where its end lies past the input's (and a walk where a table is over
+-- its limit), and itself where not, and that its octets then stand inside the input, behind its kind octet. So each request starts behind the last. Assumes nothing.
 use mathlib.Core.Path.{_≡_, refl, subst}
 use mathlib.Core.Bool.{Bool, true, false}
 use mathlib.Core.List.{List}
@@ -10,9 +10,9 @@ use lib.Dec.{eqb, ltb, leb}
 use lib.ListN.{length, getD}
 use Rattle.octets.specs.Choice.{pick}
 use Rattle.octets.specs.BigEndian.{beAt}
-use Rattle.requests.specs.Requests.{fieldsAt, signedAt, requestAt, placeAfter}
+use Rattle.requests.specs.Requests.{walkAt, pullAt, fieldsAt, signedAt, requestAt, placeAfter}
 use Rattle.requests.specs.declared.Request.{Request}
-use Rattle.requests.specs.declared.Request.the-variants.{Fields, Signed, Bad}
+use Rattle.requests.specs.declared.Request.the-variants.{Walk, Pull, Fields, Signed, Bad}
 
 -- what holds of both answers of a test, each where the test says so, holds of the one picked
 pick-by : {A : Type 0} (P : A → Type 0) (t : Bool) {a b : A} → (t ≡ true → P a) → (t ≡ false → P b) → P (pick t a b)
@@ -25,11 +25,65 @@ pub record Inside (s : List ℕ) (at from to : ℕ) : Type 0 where
   pub ordered : from ≤ to
   pub within : to ≤ length s
 
+-- the octets of a walk do, and its tables are no larger than its limits
+pub record Walked (s : List ℕ) (at n m from to : ℕ) : Type 0 where
+  pub octets : Inside s at from to
+  pub numbers : n ≤ 6144
+  pub lines : m ≤ 512
+
 -- the octets of a request do
 abbrev pub Stands : List ℕ → ℕ → Request → Type 0
+Stands s at (Walk n m from to) = Walked s at n m from to
+Stands s at (Pull from to) = Inside s at from to
 Stands s at (Fields number from to) = Inside s at from to
 Stands s at (Signed from to) = Inside s at from to
 Stands s at Bad = Unit
+
+-- `W`; `n`, `m` and `size` are what its numbers say
+module _ (s : List ℕ) (at n m size : ℕ) (en : n ≡ beAt s (at + 1) 2) (em : m ≡ beAt s (at + 3) 2) (es : size ≡ beAt s (at + 5) 4) where
+  pub walk-cut : length s < at + 9 + size → Bad ≡ walkAt s at
+  unfolding walkAt
+  walk-cut h = simp (← es, lt-ltb _ _ h)
+
+  pub walk-numbers-over : at + 9 + size ≤ length s → 6144 < n → Bad ≡ walkAt s at
+  unfolding walkAt
+  walk-numbers-over h o = simp (← es, ← en, le-ltb _ _ h, lt-ltb _ _ o)
+
+  pub walk-lines-over : at + 9 + size ≤ length s → n ≤ 6144 → 512 < m → Bad ≡ walkAt s at
+  unfolding walkAt
+  walk-lines-over h k o = simp (← es, ← en, ← em, le-ltb _ _ h, le-ltb _ _ k, lt-ltb _ _ o)
+
+  pub walk-whole : at + 9 + size ≤ length s → n ≤ 6144 → m ≤ 512 → Walk n m (at + 9) (at + 9 + size) ≡ walkAt s at
+  unfolding walkAt
+  walk-whole h k l = simp (← es, ← en, ← em, le-ltb _ _ h, le-ltb _ _ k, le-ltb _ _ l)
+
+walk-stands : (s : List ℕ) (at : ℕ) → Stands s at (walkAt s at)
+unfolding walkAt
+walk-stands s at =
+    pick-by (Stands s at) (ltb (length s) (at + 9 + beAt s (at + 5) 4)) (λ e. tt) (λ e.
+    pick-by (Stands s at) (ltb 6144 (beAt s (at + 1) 2)) (λ e. tt) (λ f.
+    pick-by (Stands s at) (ltb 512 (beAt s (at + 3) 2)) (λ e. tt) (λ g.
+    record {
+      octets = record { behind = omega arith; ordered = omega arith; within = ltb-false _ _ e };
+      numbers = ltb-false _ _ f;
+      lines = ltb-false _ _ g;
+    })))
+
+-- `P`
+module _ (s : List ℕ) (at : ℕ) where
+  pub pull-cut : length s < at + 5 + beAt s (at + 1) 4 → Bad ≡ pullAt s at
+  unfolding pullAt
+  pull-cut h = simp (lt-ltb _ _ h)
+
+  pub pull-whole : (size : ℕ) → size ≡ beAt s (at + 1) 4 → at + 5 + size ≤ length s → Pull (at + 5) (at + 5 + size) ≡ pullAt s at
+  unfolding pullAt
+  pull-whole size e h = simp (← e, le-ltb _ _ h)
+
+  pull-stands : Stands s at (pullAt s at)
+  unfolding pullAt
+  pull-stands =
+      pick-by (Stands s at) (ltb (length s) (at + 5 + beAt s (at + 1) 4)) (λ e. tt) (λ e.
+      record { behind = omega arith; ordered = omega arith; within = ltb-false _ _ e })
 
 -- `F`
 module _ (s : List ℕ) (at : ℕ) where
@@ -68,8 +122,10 @@ stands : (s : List ℕ) (at : ℕ) → Stands s at (requestAt s at)
 unfolding requestAt
 stands s at =
     pick-by (Stands s at) (leb (length s) at) (λ e. tt) (λ e.
+    pick-by (Stands s at) (eqb (getD s at 0) 87) (λ e. walk-stands s at) (λ e.
+    pick-by (Stands s at) (eqb (getD s at 0) 80) (λ e. pull-stands s at) (λ e.
     pick-by (Stands s at) (eqb (getD s at 0) 70) (λ e. fields-stands s at) (λ e.
-    pick-by (Stands s at) (eqb (getD s at 0) 83) (λ e. signed-stands s at) (λ e. tt)))
+    pick-by (Stands s at) (eqb (getD s at 0) 83) (λ e. signed-stands s at) (λ e. tt)))))
 
 -- the request that was read
 pub stands-at : (s : List ℕ) (at : ℕ) (r : Request) → requestAt s at ≡ r → Stands s at r
@@ -82,6 +138,8 @@ pub record Goes (s : List ℕ) (at next : ℕ) : Type 0 where
 
 goes-by : (s : List ℕ) (at : ℕ) (r : Request) → at < length s → Stands s at r → Goes s at (placeAfter s r)
 unfolding placeAfter
+goes-by s at (Walk n m from to) h w = record { later = omega arith; inside = w .octets .within }
+goes-by s at (Pull from to) h w = record { later = omega arith; inside = w .within }
 goes-by s at (Fields number from to) h w = record { later = omega arith; inside = w .within }
 goes-by s at (Signed from to) h w = record { later = omega arith; inside = w .within }
 goes-by s at Bad h w = record { later = h; inside = omega arith }

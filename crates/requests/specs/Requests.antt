@@ -6,11 +6,31 @@ use lib.ListN.{length, getD}
 use Rattle.octets.specs.Choice.{pick}
 use Rattle.octets.specs.BigEndian.{beAt}
 use Rattle.requests.specs.declared.Request.{Request}
-use Rattle.requests.specs.declared.Request.the-variants.{Fields, Signed, Bad}
+use Rattle.requests.specs.declared.Request.the-variants.{Walk, Pull, Fields, Signed, Bad}
 
 -- a request that runs to `to`, unless the end of the input cuts it
 abbrev pub whole : List ℕ → ℕ → Request → Request
 whole input to request = pick (ltb (length input) to) Bad request
+
+-- a request with a number over its limit is bad
+abbrev pub upTo : ℕ → ℕ → Request → Request
+upTo most number request = pick (ltb most number) Bad request
+
+-- `W`: n (2): numbers in the section table, at most 6,144; m (2): lines in the submessage table, at most 512; length (4); the file
+unfoldable pub walkAt : List ℕ → ℕ → Request
+walkAt input at =
+    let n = beAt input (at + 1) 2 in
+    let m = beAt input (at + 3) 2 in
+    let from = at + 9 in
+    let to = from + beAt input (at + 5) 4 in
+    whole input to (upTo 6144 n (upTo 512 m (Walk n m from to)))
+
+-- `P`: length (4); the file
+unfoldable pub pullAt : List ℕ → ℕ → Request
+pullAt input at =
+    let from = at + 5 in
+    let to = from + beAt input (at + 1) 4 in
+    whole input to (Pull from to)
 
 -- `F`: section number (1); length (4); the payload
 unfoldable pub fieldsAt : List ℕ → ℕ → Request
@@ -26,9 +46,13 @@ signedAt input at =
     let to = from + getD input (at + 1) 0 in
     whole input to (Signed from to)
 
--- the request of a kind octet at `at`: 70 is `F`, 83 is `S`, another kind is bad
+-- the request of a kind octet at `at`: 87 is `W`, 80 is `P`, 70 is `F`, 83 is `S`, another kind is bad
 abbrev pub ofKind : ℕ → List ℕ → ℕ → Request
-ofKind kind input at = pick (eqb kind 70) (fieldsAt input at) (pick (eqb kind 83) (signedAt input at) Bad)
+ofKind kind input at =
+    pick (eqb kind 87) (walkAt input at)
+    (pick (eqb kind 80) (pullAt input at)
+    (pick (eqb kind 70) (fieldsAt input at)
+    (pick (eqb kind 83) (signedAt input at) Bad)))
 
 -- the request at `at`; where the input has no octet, a bad one
 unfoldable pub requestAt : List ℕ → ℕ → Request
@@ -36,6 +60,8 @@ requestAt input at = pick (leb (length input) at) Bad (ofKind (getD input at 0) 
 
 -- where the next request starts; a bad one ends the run, so at the input's end
 unfoldable pub placeAfter : List ℕ → Request → ℕ
+placeAfter input (Walk n m from to) = to
+placeAfter input (Pull from to) = to
 placeAfter input (Fields number from to) = to
 placeAfter input (Signed from to) = to
 placeAfter input Bad = length input

@@ -4,12 +4,23 @@ ghost use mathlib.Core.Path.{_≡_};
 ghost use Prim.Native.Nat.{_+_, _<_, _≤_};
 ghost use lib.ListN.{length};
 ghost use Rattle.octets.specs.BigEndian.{beAt};
-ghost use Rattle.requests.specs.Requests.{requestAt, fieldsAt, signedAt};
+ghost use Rattle.requests.specs.Requests.{requestAt, walkAt, pullAt, fieldsAt, signedAt};
+use octets::be16;
 use octets::be32;
+
+const WALK: u8 = b'W';
+
+const PULL: u8 = b'P';
 
 const FIELDS: u8 = b'F';
 
 const SIGNED: u8 = b'S';
+
+// Octets before a walked file: kind, numbers, lines, length.
+const WALK_HEAD: usize = 9;
+
+// Octets before a pulled file: kind, length.
+const PULL_HEAD: usize = 5;
 
 // Octets before a payload: kind, section number, length.
 const FIELDS_HEAD: usize = 6;
@@ -17,11 +28,34 @@ const FIELDS_HEAD: usize = 6;
 // Octets before a signed number's: kind, length.
 const SIGNED_HEAD: usize = 2;
 
+// The largest tables that a walk can ask for: 2,048 rows of three numbers, and so many lines.
+const MOST_NUMBERS: u16 = 6_144;
+
+const MOST_LINES: u16 = 512;
+
 // A request's octets are those of the input from `from` up to `to`, where the next request starts.
 pub enum Request {
-    Fields { number: u8, from: usize, to: usize },
-    Signed { from: usize, to: usize },
-    // Of another kind, or cut by the end of the input: nothing after it can be told.
+    // With so many numbers in the section table, and so many lines in the submessage table.
+    Walk {
+        numbers: u16,
+        lines: u16,
+        from: usize,
+        to: usize,
+    },
+    Pull {
+        from: usize,
+        to: usize,
+    },
+    Fields {
+        number: u8,
+        from: usize,
+        to: usize,
+    },
+    Signed {
+        from: usize,
+        to: usize,
+    },
+    // Of another kind, with a number over its limit, or cut by the end of the input: nothing after it can be told.
     Bad,
 }
 
@@ -34,10 +68,20 @@ pub fn request_at(input: &[u8], at: usize) -> Request
     }
     let kind = input[at];
     match kind {
+        WALK => walk_at(input, at),
+        PULL => pull_at(input, at),
         FIELDS => fields_at(input, at),
         SIGNED => signed_at(input, at),
         _ => Request::Bad,
     }
+}
+
+// The number that the two octets from `at` on write.
+fn two_octets(input: &[u8], at: usize) -> u16
+    requires { ⌜ at + 2 ≤ length (now input) ⌝ }
+    ensures { λ r. ⌜ r ≡ beAt (now (input .entry)) at 2 ⌝ }
+{
+    be16([input[at], input[at + 1]])
 }
 
 // The number that the four octets from `at` on write.
@@ -48,8 +92,56 @@ fn four_octets(input: &[u8], at: usize) -> u32
     be32([input[at], input[at + 1], input[at + 2], input[at + 3]])
 }
 
-// Section number (1); length (4); the payload. What is left of the input is tested before each sum, so
+// Numbers (2); lines (2); length (4); the file. What is left of the input is tested before each sum, so
 // that none can wrap.
+fn walk_at(input: &[u8], at: usize) -> Request
+    requires { ⌜ at < length (now input) ⌝ }
+    ensures { λ r. ⌜ r ≡ walkAt (now (input .entry)) at ⌝ }
+{
+    if input.len() - at < WALK_HEAD {
+        return Request::Bad;
+    }
+    let from = at + WALK_HEAD;
+    let numbers = two_octets(input, at + 1);
+    let lines = two_octets(input, at + 3);
+    let size = four_octets(input, at + 5) as usize;
+    if input.len() - from < size {
+        return Request::Bad;
+    }
+    if MOST_NUMBERS < numbers {
+        return Request::Bad;
+    }
+    if MOST_LINES < lines {
+        return Request::Bad;
+    }
+    Request::Walk {
+        numbers,
+        lines,
+        from,
+        to: from + size,
+    }
+}
+
+// Length (4); the file.
+fn pull_at(input: &[u8], at: usize) -> Request
+    requires { ⌜ at < length (now input) ⌝ }
+    ensures { λ r. ⌜ r ≡ pullAt (now (input .entry)) at ⌝ }
+{
+    if input.len() - at < PULL_HEAD {
+        return Request::Bad;
+    }
+    let from = at + PULL_HEAD;
+    let size = four_octets(input, at + 1) as usize;
+    if input.len() - from < size {
+        return Request::Bad;
+    }
+    Request::Pull {
+        from,
+        to: from + size,
+    }
+}
+
+// Section number (1); length (4); the payload.
 fn fields_at(input: &[u8], at: usize) -> Request
     requires { ⌜ at < length (now input) ⌝ }
     ensures { λ r. ⌜ r ≡ fieldsAt (now (input .entry)) at ⌝ }

@@ -1,0 +1,96 @@
+// What is printed on standard output: the pieces of a line, and a submessage's line and a walk's end as the programs show
+// them. A write that fails is let pass: there is nowhere else to say so. What prints answers nothing, so it has no `ensures`.
+ghost use mathlib.Core.Path.{_≡_};
+ghost use lib.IntN.{natAbs};
+use libc::STDOUT_FILENO;
+use lines::Line;
+use lines::LocalUsePlace;
+use numbers::end_of;
+use state::Outcome;
+
+pub fn text(words: &[u8]) {
+    io::write_all(STDOUT_FILENO, words);
+}
+
+pub fn decimal(number: u64) {
+    io::print_decimal(STDOUT_FILENO, number);
+}
+
+// A further field of a line.
+pub fn field(number: u64) {
+    text(b" ");
+    decimal(number);
+}
+
+// A further field that is none.
+pub fn no_field() {
+    text(b" none");
+}
+
+pub fn line_end() {
+    text(b"\n");
+}
+
+// A further field that may be below 0.
+pub fn signed_field(number: i32) {
+    if number < 0 {
+        text(b" -");
+    } else {
+        text(b" ");
+    }
+    decimal(magnitude(number));
+}
+
+// A number without its sign. It is widened first: the negative of the least `i32` is no `i32`.
+fn magnitude(number: i32) -> u64
+    ensures { λ r. ⌜ r ≡ natAbs number ⌝ }
+{
+    let wide = number as i64;
+    if wide < 0 {
+        (0 - wide) as u64
+    } else {
+        wide as u64
+    }
+}
+
+// Message and submessage number, then the nine places; `-` for no section 2.
+pub fn submessage(line: Line) {
+    let indicator = line.indicator;
+    let identification = line.identification;
+    let local = line.local;
+    let grid = line.grid;
+    let product = line.product;
+    let representation = line.representation;
+    let bitmap = line.bitmap;
+    let values = line.values;
+    let end = line.end;
+    decimal(line.message);
+    text(b".");
+    decimal(line.submessage);
+    field(indicator.0);
+    field(identification.0);
+    local_use(local);
+    field(grid.0);
+    field(product.0);
+    field(representation.0);
+    field(bitmap.0);
+    field(values.0);
+    field(end.0);
+    line_end();
+}
+
+fn local_use(local: LocalUsePlace) {
+    match local {
+        LocalUsePlace::At(place) => field(place.0),
+        LocalUsePlace::Absent => text(b" -"),
+    }
+}
+
+// Document 01's outcome, place, offset and detail of a walk's end.
+pub fn outcome(how: Outcome) {
+    let end = end_of(how);
+    field(end.outcome);
+    field(end.place);
+    field(end.offset);
+    field(end.detail);
+}
