@@ -1,4 +1,4 @@
-// Answers the requests of standard input (REPLAY.md). Its stored list: signed numbers, and the sections of sample A.
+// `replay` over the stored list of walks with every room, from none to more than enough.
 fn main() {
     replaying::run();
 }

@@ -8,7 +8,7 @@ use printing::outcome;
 use printing::text;
 use pull::Pulled;
 use pull::first;
-use pull::pull_at;
+use resume::next_of;
 use state::Listed;
 use state::Outcome;
 
@@ -28,7 +28,7 @@ pub(crate) fn answer_pull(file: &[u8]) {
     let mut t = untold(file);
     let mut progress = first(file);
     while t.going {
-        let pull = pull_at(file, progress);
+        let pull = next_of(file, progress);
         let answer = pull.answer;
         progress = pull.next;
         t = tell(answer, t);

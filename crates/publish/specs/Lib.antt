@@ -1,0 +1,5 @@
+-- `Values` says which octets are values, `Copy` what the public copy is and what a call answers; `Runs` is machinery, for the private
+-- functions' contracts.
+pub mod Values
+pub mod Copy
+pub mod Runs
