@@ -1,4 +1,5 @@
-"""The section walk by document 01, read plainly: it says the answers that the stored lists expect.
+"""The section walk, the public copy and the writer by document 01, read plainly: it says the
+answers that the stored lists expect.
 
 Written from document 01, with the project's reading where 01 leaves two; it shares nothing with the
 library. Headings and words are 01's.
@@ -200,3 +201,140 @@ def pull(file):
         yield "refused", done.outcome, done.place, done.offset, done.detail
     while True:
         yield ("ended",)
+
+
+# --- Values octets and the public copy -----------------------------------------------------------
+
+# The first values octet of each kind that has any, counted from 1 in the section.
+FIRST_VALUES_OCTET = {2: 6, 5: 12, 6: 7, 7: 6}
+
+
+class Written(NamedTuple):
+    """What the copy and the writer answer, and the octets that they write from the destination's
+    start on: none on a refusal."""
+    outcome: int
+    place: int
+    offset: int
+    detail: int
+    octets: bytes
+
+
+def refused(outcome, place=0, offset=0, detail=0):
+    return Written(outcome, place, offset, detail, b"")
+
+
+def values_octets(file, section):
+    """Where a listed section's values octets stand, inside the file."""
+    if section.number not in FIRST_VALUES_OCTET:
+        return range(0)
+    first = section.offset + FIRST_VALUES_OCTET[section.number] - 1
+    return range(first, min(section.offset + section.length, len(file)))
+
+
+def message_octets(file, section_0):
+    """Where a closed message's octets stand: as many from its G on as its total length says."""
+    total = unsigned(file[section_0.offset + 8:section_0.offset + 16])
+    return range(section_0.offset, section_0.offset + total)
+
+
+def blanked(file, sections):
+    """The file with its values octets and every octet outside a message set to zero."""
+    kept = set()
+    for section in sections:
+        if section.number == 0:
+            kept.update(message_octets(file, section))
+    for section in sections:
+        kept.difference_update(values_octets(file, section))
+    return bytes(octet if place in kept else 0 for place, octet in enumerate(file))
+
+
+def public_copy(file, room):
+    """The answer to a file, with a destination of so many octets."""
+    if len(file) > LARGEST_FILE:
+        return refused(1)
+    if room < len(file):
+        return refused(19)
+    done = walk(file)
+    if done.outcome:
+        return refused(done.outcome, done.place, done.offset, done.detail)
+    return Written(0, 0, 0, 0, blanked(file, done.rows))
+
+
+# --- The writer ----------------------------------------------------------------------------------
+
+MOST_SECTIONS = 4096
+LARGEST_PAYLOAD = 4_294_967_290
+LARGEST_MESSAGE = 2**40
+
+
+class Part(NamedTuple):
+    """A section of a plan: its number, and the part of the store that is its payload."""
+    number: int
+    offset: int
+    length: int
+
+
+class Plan(NamedTuple):
+    discipline: int
+    reserved: bytes
+    parts: tuple
+    store: bytes
+
+
+def first_misfit(numbers):
+    """The first place whose number isn't 1 to 7 or can't come next; how many there are if only the
+    8 misfits; None if the numbers, with 0 before and 8 after, are one message."""
+    after = 0
+    for place, number in enumerate(numbers):
+        next_numbers = CAN_COME[SUBMESSAGE_START if after == 7 else after]
+        if not 1 <= number <= 7 or number not in next_numbers:
+            return place
+        after = number
+    return None if 8 in CAN_COME[after] else len(numbers)
+
+
+def outside_store(part, store):
+    return part.offset + part.length > len(store)
+
+
+def wrong_size(part, _):
+    return not LEAST[part.number] <= part.length <= LARGEST_PAYLOAD
+
+
+def total_length(plan):
+    return 16 + sum(part.length + 5 for part in plan.parts) + 4
+
+
+def fault_in_plan(plan):
+    """The first of the refusals 15 to 18 that is due, and its detail; None if none is."""
+    if len(plan.parts) > MOST_SECTIONS:
+        return 15, 0
+    misfit = first_misfit([part.number for part in plan.parts])
+    if misfit is not None:
+        return 16, misfit
+    for outcome, at_fault in ((17, outside_store), (18, wrong_size)):
+        for place, part in enumerate(plan.parts):
+            if at_fault(part, plan.store):
+                return outcome, place
+    return None
+
+
+def framed(plan):
+    """The message that the plan says."""
+    start = b"GRIB" + plan.reserved + bytes([plan.discipline, 2])
+    octets = [start, total_length(plan).to_bytes(8, "big")]
+    for part in plan.parts:
+        octets += [(part.length + 5).to_bytes(4, "big"), bytes([part.number]),
+                   plan.store[part.offset:part.offset + part.length]]
+    return b"".join(octets) + b"7777"
+
+
+def write_message(plan, room):
+    """The answer to a plan, with a destination of so many octets."""
+    fault = fault_in_plan(plan)
+    if fault:
+        outcome, detail = fault
+        return refused(outcome, detail=detail)
+    if room < total_length(plan) or total_length(plan) > LARGEST_MESSAGE:
+        return refused(19)
+    return Written(0, 0, 0, 0, framed(plan))

@@ -1,27 +1,22 @@
--- The samples of 01 ("Sample files"): the starred ones as a single statement over their list, and the others. Assumes nothing.
+-- The samples of 01 ("Sample files"): the starred ones as a single statement over their list, and the others; proofs/Computed.antt has
+-- them by computing. Assumes nothing.
 use Prim.Native.Nat.{ℕ, _+_}
-use mathlib.Core.Path.{_≡_, refl}
+use mathlib.Core.Path.{_≡_}
 use mathlib.Core.List.{List, [], _∷_, _++_, map}
 use lib.IntN.{ℤ, pos, negℤ}
 use lib.ListN.{length, take}
-use Rattle.octets.specs.BigEndian.{beAt}
 use Rattle.octets.specs.Signed.{signedOf}
 use Rattle.octets.specs.declared.Signed.{Signed}
 use Rattle.octets.specs.declared.Signed.the-variants.{Number}
-use Rattle.sections.specs.Kinds.{leastPayloadOf, kindOf, kinds}
-use Rattle.framing.specs.Search.{says, startsAt, startAmong, nextStart}
-use Rattle.framing.specs.Framing.{indicatorAt, endAt, isCut, payloadAt, headerAt, messageAt, readAt}
-use Rattle.framing.specs.Listing.{listingFrom, listing}
 use Rattle.framing.specs.declared.read.Section.{Section}
-use Rattle.order.specs.Order.{judged, completes, isBetween}
-use Rattle.lines.specs.Lines.{place, inForce, lineOf}
+use Rattle.lines.specs.Lines.{place}
 use Rattle.lines.specs.declared.LocalUsePlace.{LocalUsePlace}
 use Rattle.lines.specs.declared.LocalUsePlace.the-variants.{At, Absent}
 use Rattle.lines.specs.declared.Line.{Line}
-use Rattle.numbers.specs.Numbers.{endOf, refusalNumber, refusalDetail, faultNumber, faultDetail}
+use Rattle.numbers.specs.Numbers.{endOf}
 use Rattle.numbers.specs.declared.End.{End}
 use Rattle.machine.specs.Machine.{unlimited}
-use Rattle.meaning.specs.Walk.{Told, fitted, closing, byOrder, judgement, concluded, walkedFrom, walked}
+use Rattle.meaning.specs.Walk.{Told, walked}
 
 -- section 0: "GRIB", 2 reserved, discipline, edition, total length in 8
 abbrev pub section0 : ℕ → List ℕ
@@ -191,15 +186,13 @@ others =
     ∷ is (127 ∷ 255 ∷ 255 ∷ []) (pos 8388607)
     ∷ []
 
--- 01's samples, all at once: each answer is the one expected
-pub starred-hold : map (λ (s : Sample). answer (s .asked)) starred ≡ map (λ (s : Sample). s .answered) starred
-unfolding starred answer printed walked walkedFrom judgement byOrder closing fitted concluded lineOf inForce judged completes isBetween
-    endOf refusalNumber refusalDetail faultNumber faultDetail listing listingFrom readAt messageAt headerAt payloadAt isCut
-    endAt indicatorAt nextStart startAmong startsAt says leastPayloadOf kindOf kinds beAt signedOf
-starred-hold = refl
+-- each answer is the one expected
+abbrev pub Hold : List Sample → Type 0
+Hold samples = map (λ (s : Sample). answer (s .asked)) samples ≡ map (λ (s : Sample). s .answered) samples
 
-pub others-hold : map (λ (s : Sample). answer (s .asked)) others ≡ map (λ (s : Sample). s .answered) others
-unfolding others answer printed walked walkedFrom judgement byOrder closing fitted concluded lineOf inForce judged completes isBetween
-    endOf refusalNumber refusalDetail faultNumber faultDetail listing listingFrom readAt messageAt headerAt payloadAt isCut
-    endAt indicatorAt nextStart startAmong startsAt says leastPayloadOf kindOf kinds beAt signedOf
-others-hold = refl
+-- 01's starred samples, all at once
+abbrev pub StarredHold : Type 0
+StarredHold = Hold starred
+
+abbrev pub OthersHold : Type 0
+OthersHold = Hold others

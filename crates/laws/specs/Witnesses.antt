@@ -1,24 +1,17 @@
 -- For each refusal 1 to 14 a walk that gives it, and for the order of the rows walks at which two of them hold (01, "Refusal numbers").
--- Assumes nothing.
+-- Proved in proofs/Computed.antt. Assumes nothing.
 use Prim.Native.Nat.{ℕ, _^_, _<_}
-use mathlib.Core.Path.{_≡_, refl}
+use mathlib.Core.Path.{_≡_}
 use mathlib.Core.List.{List, [], _∷_, _++_, map}
-use lib.ListN.{length, length-replicate, replicate, set, take}
-use borrow.Author.Tests.{lt-ltb}
-use Rattle.octets.specs.BigEndian.{beAt}
-use Rattle.sections.specs.Kinds.{leastPayloadOf, kindOf, kinds}
-use Rattle.framing.specs.Search.{says, startsAt, startAmong, nextStart}
-use Rattle.framing.specs.Framing.{indicatorAt, endAt, isCut, payloadAt, headerAt, messageAt, readAt}
-use Rattle.framing.specs.Listing.{listingFrom, listing}
-use Rattle.order.specs.Order.{judged, completes, isBetween}
-use Rattle.lines.specs.Lines.{place, inForce, lineOf}
-use Rattle.numbers.specs.Numbers.{endOf, refusalNumber, refusalDetail, faultNumber, faultDetail}
+use lib.ListN.{replicate, set, take}
+use Rattle.lines.specs.Lines.{place}
+use Rattle.numbers.specs.Numbers.{endOf}
 use Rattle.numbers.specs.declared.End.{End}
 use Rattle.state.specs.declared.refusal.Refusal.the-variants as refusal
 use Rattle.state.specs.declared.refusal.Outcome.the-variants as outcome
 use Rattle.machine.specs.Machine.{unlimited}
 use Rattle.machine.specs.declared.Room.{Room}
-use Rattle.meaning.specs.Walk.{ends, fitted, closing, byOrder, judgement, concluded, walkedFrom, walked}
+use Rattle.meaning.specs.Walk.{ends, walked}
 use Rattle.laws.specs.ExactlyWhen.{TooLong}
 use Rattle.laws.specs.Samples.{section0, section, section8, to7, fileA, twice, fiveAfter7, end}
 
@@ -87,19 +80,17 @@ witnesses =
     ∷ endingIn 7 0 (take 84 fileA) (end 2 7 82 0)
     ∷ []
 
-pub witnesses-hold :
+-- each is refused as it says
+abbrev pub WitnessesHold : Type 0
+WitnessesHold =
     map (λ (w : Witness). endOf (walked (w .room) (w .file) .outcome)) witnesses ≡ map (λ (w : Witness). w .given) witnesses
-unfolding witnesses walked walkedFrom judgement byOrder closing fitted concluded lineOf inForce judged completes isBetween endOf
-    refusalNumber refusalDetail faultNumber faultDetail listing listingFrom readAt messageAt headerAt payloadAt isCut endAt indicatorAt
-    nextStart startAmong startsAt says leastPayloadOf kindOf kinds beAt
-witnesses-hold = refl
 
 -- 1: any file over 2^40 octets; nothing is told of it
-pub too-long : (room : Room) (file : List ℕ) → TooLong file
+abbrev pub TooLongRefused : Type 0
+TooLongRefused =
+    (room : Room) (file : List ℕ) → TooLong file
     → walked room file ≡ ends (outcome.Refused refusal.FileTooLong (place 0) (record { 0 = 0 }))
-unfolding walked
-too-long room file long = rw (lt-ltb 1099511627776 (length file) long)
 
 -- there are such files: so many zeros
-pub long-file : (n : ℕ) → 2 ^ 40 < n → TooLong (replicate n 0)
-long-file n long = rw length-replicate long
+abbrev pub LongFiles : Type 0
+LongFiles = (n : ℕ) → 2 ^ 40 < n → TooLong (replicate n 0)

@@ -19,6 +19,10 @@ use Rattle.state.specs.declared.walk.Listed.{Listed}
 use Rattle.state.specs.declared.walk.Walk.{Walk}
 use Rattle.machine.specs.declared.Room.{Room}
 
+-- a file is at most 2^40 octets
+abbrev pub mostOctets : ℕ
+mostOctets = 1099511627776
+
 -- where no table is lent: more room than any file asks for
 abbrev pub unlimited : Room
 unlimited = record { rows = 18446744073709551615; lines = 18446744073709551615 }
@@ -79,5 +83,5 @@ advanceOf file room w = byRead (readAt file (w .cursor .at .0) (w .cursor .rest)
 -- before the first step: a file is at most 2^40 octets
 unfoldable pub startOf : ℕ → Walk
 startOf octets =
-    pick (ltb 1099511627776 octets) (refuse unstarted refusal.FileTooLong (place 0) (record { 0 = 0 }))
+    pick (ltb mostOctets octets) (refuse unstarted refusal.FileTooLong (place 0) (record { 0 = 0 }))
     unstarted

@@ -20,6 +20,7 @@ use Rattle.state.specs.declared.refusal.Refusal.the-variants as refusal
 use Rattle.state.specs.declared.refusal.Outcome.{Outcome}
 use Rattle.state.specs.declared.refusal.Outcome.the-variants as outcome
 use Rattle.state.specs.declared.walk.Listed.{Listed}
+use Rattle.machine.specs.Machine.{mostOctets}
 use Rattle.machine.specs.declared.Room.{Room}
 
 -- what stands before a section: how many sections and lines are told, the section told last, what was read last, what is in force
@@ -143,5 +144,5 @@ walkedFrom room r (s ∷ more) ending = followed r s (judgement room r s) (λ re
 -- the walk of a file: 1 over 2^40 octets, else down its listing
 unfoldable pub walked : Room → List ℕ → Told
 walked room file =
-    pick (ltb 1099511627776 (length file)) (ends (outcome.Refused refusal.FileTooLong (place 0) (record { 0 = 0 })))
+    pick (ltb mostOctets (length file)) (ends (outcome.Refused refusal.FileTooLong (place 0) (record { 0 = 0 })))
     (walkedFrom room atStart (listing file .sections) (listing file .ending))

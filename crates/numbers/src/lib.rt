@@ -1,6 +1,7 @@
-// Document 01's numbers (its table "Refusal numbers"): the number and the detail of each refusal, and the four numbers of a walk's end.
+// Document 01's numbers (its table "Refusal numbers"): the number and the detail of each refusal, the four numbers of a walk's end, and
+// the five of a call that stores octets.
 ghost use mathlib.Core.Path.{_≡_};
-ghost use Rattle.numbers.specs.Numbers.{faultNumber, faultDetail, refusalNumber, refusalDetail, endOf};
+ghost use Rattle.numbers.specs.Numbers.{faultNumber, faultDetail, refusalNumber, refusalDetail, endOf, stored, unplaced};
 use framing::Fault;
 use state::Outcome;
 use state::Refusal;
@@ -11,6 +12,12 @@ pub struct End {
     pub place: u64,
     pub offset: u64,
     pub detail: u64,
+}
+
+// How a call of the public copy or of the writer ended, and the octets written.
+pub struct StoreEnd {
+    pub end: End,
+    pub written: u64,
 }
 
 // The number of a section that can't be read: 2 to 9.
@@ -90,5 +97,30 @@ pub fn end_of(outcome: Outcome) -> End
             offset: offset.0,
             detail: refusal_detail(why),
         },
+    }
+}
+
+// All is written, so many octets.
+pub fn stored(octets: u64) -> StoreEnd
+    ensures { λ r. ⌜ r ≡ stored octets ⌝ }
+{
+    StoreEnd {
+        end: end_of(Outcome::Clean),
+        written: octets,
+    }
+}
+
+// A refusal that has no place in a file: 1 and 15 to 19.
+pub fn unplaced(outcome: u64, detail: u64) -> StoreEnd
+    ensures { λ r. ⌜ r ≡ unplaced outcome detail ⌝ }
+{
+    StoreEnd {
+        end: End {
+            outcome,
+            place: 0,
+            offset: 0,
+            detail,
+        },
+        written: 0,
     }
 }

@@ -1,10 +1,13 @@
 // What is printed on standard output: the pieces of a line, and a submessage's line and a walk's end as the programs show
 // them. A write that fails is let pass: there is nowhere else to say so. What prints answers nothing, so it has no `ensures`.
 ghost use mathlib.Core.Path.{_≡_};
+ghost use Prim.Native.Nat.{_<_};
 ghost use lib.IntN.{natAbs};
+ghost use Rattle.printing.specs.Hexadecimal.{digitOf, twoDigits};
 use libc::STDOUT_FILENO;
 use lines::Line;
 use lines::LocalUsePlace;
+use numbers::End;
 use numbers::end_of;
 use state::Outcome;
 
@@ -53,6 +56,36 @@ fn magnitude(number: i32) -> u64
     }
 }
 
+// An octet string in lower-case hexadecimal; `-` where it has no octets.
+pub fn hex(octets: &[u8]) {
+    if octets.len() == 0 {
+        text(b"-");
+    }
+    let mut i: usize = 0;
+    while i < octets.len() {
+        let two = two_digits(octets[i]);
+        text(&two);
+        i += 1;
+    }
+}
+
+fn two_digits(octet: u8) -> [u8; 2]
+    ensures { λ r. ⌜ r ≡ twoDigits octet ⌝ }
+{
+    [digit(octet / 16), digit(octet % 16)]
+}
+
+// A number under 16 as a digit.
+fn digit(number: u8) -> u8
+    requires { ⌜ number < 16 ⌝ }
+    ensures { λ r. ⌜ r ≡ digitOf number ⌝ }
+{
+    if number < 10 {
+        return b'0' + number;
+    }
+    b'a' + (number - 10)
+}
+
 // Message and submessage number, then the nine places; `-` for no section 2.
 pub fn submessage(line: Line) {
     let indicator = line.indicator;
@@ -88,7 +121,11 @@ fn local_use(local: LocalUsePlace) {
 
 // Document 01's outcome, place, offset and detail of a walk's end.
 pub fn outcome(how: Outcome) {
-    let end = end_of(how);
+    end_fields(end_of(how));
+}
+
+// The same of any end.
+pub fn end_fields(end: End) {
     field(end.outcome);
     field(end.place);
     field(end.offset);

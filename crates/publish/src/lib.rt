@@ -10,6 +10,7 @@ ghost use Rattle.machine.specs.Machine.{unlimited};
 ghost use Rattle.meaning.specs.Walk.{walked};
 ghost use Rattle.publish.specs.Values.{licensed, inStretch};
 ghost use Rattle.publish.specs.Copy.{publicCopy, copyOf};
+ghost use Rattle.publish.specs.End.{copyEnd};
 ghost use Rattle.publish.specs.Runs.{Wrote, zeros, octetsOf, ToWrite, WroteSection};
 ghost use Rattle.state.specs.declared.refusal.Outcome.the-variants.{Clean};
 use framing::Offset;
@@ -18,6 +19,10 @@ use machine::MOST_OCTETS;
 use machine::advance;
 use machine::start;
 use machine::unlimited;
+use numbers::StoreEnd;
+use numbers::end_of;
+use numbers::stored;
+use numbers::unplaced;
 use order::Place;
 use sections::Values;
 use sections::values_of;
@@ -153,5 +158,20 @@ pub fn publish(file: &[u8], dest: &mut [u8]) -> Published
             put_copy(file, dest);
             Published::Whole(file.len())
         }
+    }
+}
+
+// An answer in document 01's numbers.
+pub fn copy_end(answer: Published) -> StoreEnd
+    ensures { λ r. ⌜ r ≡ copyEnd answer ⌝ }
+{
+    match answer {
+        Published::Whole(octets) => stored(octets as u64),
+        Published::FileTooLong => unplaced(1, 0),
+        Published::DestinationTooShort => unplaced(19, 0),
+        Published::Refused(why, place, offset) => StoreEnd {
+            end: end_of(Outcome::Refused(why, place, offset)),
+            written: 0,
+        },
     }
 }

@@ -1,12 +1,13 @@
 -- The requests of an input, in docs/REPLAY.md's words and order: one kind octet, then numbers, then octets. Assumes nothing.
-use Prim.Native.Nat.{ℕ, _+_}
+use Prim.Native.Nat.{ℕ, _+_, _*_, _≤_}
 use mathlib.Core.List.{List}
 use lib.Dec.{eqb, ltb, leb}
 use lib.ListN.{length, getD}
 use Rattle.octets.specs.Choice.{pick}
 use Rattle.octets.specs.BigEndian.{beAt}
 use Rattle.requests.specs.declared.Request.{Request}
-use Rattle.requests.specs.declared.Request.the-variants.{Walk, Pull, Fields, Signed, Bad}
+use Rattle.requests.specs.declared.Writing.{Writing}
+use Rattle.requests.specs.declared.Request.the-variants.{Walk, Pull, Copy, Write, Fields, Signed, Bad}
 
 -- a request that runs to `to`, unless the end of the input cuts it
 abbrev pub whole : List ℕ → ℕ → Request → Request
@@ -32,6 +33,47 @@ pullAt input at =
     let to = from + beAt input (at + 1) 4 in
     whole input to (Pull from to)
 
+-- `C`: d (4): length of the destination, at most 262,144; length (4); the file
+unfoldable pub copyAt : List ℕ → ℕ → Request
+copyAt input at =
+    let d = beAt input (at + 1) 4 in
+    let from = at + 9 in
+    let to = from + beAt input (at + 5) 4 in
+    whole input to (upTo 262144 d (Copy d from to))
+
+-- `M`: discipline (1); reserved (1), reserved (1); k (2): sections of the plan; k times number (8), offset (8), length (8); store length (4); the
+-- store; d (4): length of the destination, at most 262,144
+unfoldable pub writeAt : List ℕ → ℕ → Request
+writeAt input at =
+    let k = beAt input (at + 4) 2 in
+    let plan = at + 6 in
+    let rows-end = plan + k * 24 in
+    let store = rows-end + 4 in
+    let end = store + beAt input rows-end 4 in
+    let d = beAt input end 4 in
+    let to = end + 4 in
+    whole input to
+    (upTo 262144 d
+    (Write
+    (record {
+      discipline = getD input (at + 1) 0;
+      first = getD input (at + 2) 0;
+      second = getD input (at + 3) 0;
+      plan = plan;
+      sections = k;
+      store = store;
+      end = end;
+      room = d;
+      to = to;
+    })))
+
+-- a message to be written whose rows, and behind them whose store, stand inside the input, and whose destination is no longer than its limit
+pub record Planned (input : List ℕ) (w : Writing) : Type 0 where
+  pub rows : w .plan + w .sections * 24 ≤ w .store
+  pub ordered : w .store ≤ w .end
+  pub within : w .end ≤ length input
+  pub room : w .room ≤ 262144
+
 -- `F`: section number (1); length (4); the payload
 unfoldable pub fieldsAt : List ℕ → ℕ → Request
 fieldsAt input at =
@@ -46,13 +88,15 @@ signedAt input at =
     let to = from + getD input (at + 1) 0 in
     whole input to (Signed from to)
 
--- the request of a kind octet at `at`: 87 is `W`, 80 is `P`, 70 is `F`, 83 is `S`, another kind is bad
+-- the request of a kind octet at `at`: 87 is `W`, 80 is `P`, 67 is `C`, 77 is `M`, 70 is `F`, 83 is `S`, another kind is bad
 abbrev pub ofKind : ℕ → List ℕ → ℕ → Request
 ofKind kind input at =
     pick (eqb kind 87) (walkAt input at)
     (pick (eqb kind 80) (pullAt input at)
+    (pick (eqb kind 67) (copyAt input at)
+    (pick (eqb kind 77) (writeAt input at)
     (pick (eqb kind 70) (fieldsAt input at)
-    (pick (eqb kind 83) (signedAt input at) Bad)))
+    (pick (eqb kind 83) (signedAt input at) Bad)))))
 
 -- the request at `at`; where the input has no octet, a bad one
 unfoldable pub requestAt : List ℕ → ℕ → Request
@@ -62,6 +106,8 @@ requestAt input at = pick (leb (length input) at) Bad (ofKind (getD input at 0) 
 unfoldable pub placeAfter : List ℕ → Request → ℕ
 placeAfter input (Walk n m from to) = to
 placeAfter input (Pull from to) = to
+placeAfter input (Copy d from to) = to
+placeAfter input (Write w) = w .to
 placeAfter input (Fields number from to) = to
 placeAfter input (Signed from to) = to
 placeAfter input Bad = length input

@@ -4,13 +4,17 @@ ghost use mathlib.Core.Path.{_≡_};
 ghost use Prim.Native.Nat.{_+_, _<_, _≤_};
 ghost use lib.ListN.{length};
 ghost use Rattle.octets.specs.BigEndian.{beAt};
-ghost use Rattle.requests.specs.Requests.{requestAt, walkAt, pullAt, fieldsAt, signedAt};
+ghost use Rattle.requests.specs.Requests.{requestAt, walkAt, pullAt, copyAt, writeAt, fieldsAt, signedAt};
 use octets::be16;
 use octets::be32;
 
 const WALK: u8 = b'W';
 
 const PULL: u8 = b'P';
+
+const COPY: u8 = b'C';
+
+const WRITE: u8 = b'M';
 
 const FIELDS: u8 = b'F';
 
@@ -22,6 +26,18 @@ const WALK_HEAD: usize = 9;
 // Octets before a pulled file: kind, length.
 const PULL_HEAD: usize = 5;
 
+// Octets before a copied file: kind, length of the destination, length.
+const COPY_HEAD: usize = 9;
+
+// Octets before a plan: kind, discipline, two reserved, sections.
+const WRITE_HEAD: usize = 6;
+
+// Octets of a section of a plan: number, offset and length, eight each.
+const ROW_SIZE: usize = 24;
+
+// Octets of the length of a store, and of that of a destination behind it.
+const LENGTH_SIZE: usize = 4;
+
 // Octets before a payload: kind, section number, length.
 const FIELDS_HEAD: usize = 6;
 
@@ -32,6 +48,9 @@ const SIGNED_HEAD: usize = 2;
 const MOST_NUMBERS: u16 = 6_144;
 
 const MOST_LINES: u16 = 512;
+
+// The longest destination.
+const MOST_ROOM: u32 = 262_144;
 
 // A request's octets are those of the input from `from` up to `to`, where the next request starts.
 pub enum Request {
@@ -46,6 +65,13 @@ pub enum Request {
         from: usize,
         to: usize,
     },
+    // Into a destination of so many octets.
+    Copy {
+        room: u32,
+        from: usize,
+        to: usize,
+    },
+    Write(Writing),
     Fields {
         number: u8,
         from: usize,
@@ -59,6 +85,24 @@ pub enum Request {
     Bad,
 }
 
+// A message to be written: its plan and its store are octets of the input.
+pub struct Writing {
+    pub discipline: u8,
+    // The two reserved octets.
+    pub first: u8,
+    pub second: u8,
+    // The place of the plan's first row, and how many there are.
+    pub plan: usize,
+    pub sections: u16,
+    // The store's octets are those from `store` up to `end`.
+    pub store: usize,
+    pub end: usize,
+    // Into a destination of so many octets.
+    pub room: u32,
+    // Where the next request starts.
+    pub to: usize,
+}
+
 // The request that starts at octet `at`; where the input has no such octet, a bad one.
 pub fn request_at(input: &[u8], at: usize) -> Request
     ensures { λ r. ⌜ r ≡ requestAt (now (input .entry)) at ⌝ }
@@ -70,6 +114,8 @@ pub fn request_at(input: &[u8], at: usize) -> Request
     match kind {
         WALK => walk_at(input, at),
         PULL => pull_at(input, at),
+        COPY => copy_at(input, at),
+        WRITE => write_at(input, at),
         FIELDS => fields_at(input, at),
         SIGNED => signed_at(input, at),
         _ => Request::Bad,
@@ -139,6 +185,67 @@ fn pull_at(input: &[u8], at: usize) -> Request
         from,
         to: from + size,
     }
+}
+
+// Length of the destination (4); length (4); the file.
+fn copy_at(input: &[u8], at: usize) -> Request
+    requires { ⌜ at < length (now input) ⌝ }
+    ensures { λ r. ⌜ r ≡ copyAt (now (input .entry)) at ⌝ }
+{
+    if input.len() - at < COPY_HEAD {
+        return Request::Bad;
+    }
+    let from = at + COPY_HEAD;
+    let room = four_octets(input, at + 1);
+    let octets = four_octets(input, at + 5) as usize;
+    if input.len() - from < octets {
+        return Request::Bad;
+    }
+    if MOST_ROOM < room {
+        return Request::Bad;
+    }
+    Request::Copy {
+        room,
+        from,
+        to: from + octets,
+    }
+}
+
+// Discipline (1); reserved (1), reserved (1); sections of the plan (2); its rows; length (4); the store; length of the destination (4).
+fn write_at(input: &[u8], at: usize) -> Request
+    requires { ⌜ at < length (now input) ⌝ }
+    ensures { λ r. ⌜ r ≡ writeAt (now (input .entry)) at ⌝ }
+{
+    if input.len() - at < WRITE_HEAD {
+        return Request::Bad;
+    }
+    let plan = at + WRITE_HEAD;
+    let sections = two_octets(input, at + 4);
+    let rows = sections as usize * ROW_SIZE;
+    if input.len() - plan < rows + LENGTH_SIZE {
+        return Request::Bad;
+    }
+    let store = plan + rows + LENGTH_SIZE;
+    let size = four_octets(input, plan + rows) as usize;
+    if input.len() - store < size + LENGTH_SIZE {
+        return Request::Bad;
+    }
+    let end = store + size;
+    let room = four_octets(input, end);
+    if MOST_ROOM < room {
+        return Request::Bad;
+    }
+    Request::Write(Writing {
+        discipline: input[at + 1],
+        first: input[at + 2],
+        second: input[at + 3],
+        plan,
+        sections,
+        store,
+        end,
+        room,
+        to: end + LENGTH_SIZE,
+    })
 }
 
 // Section number (1); length (4); the payload.

@@ -19,6 +19,12 @@ walk-at-requires c κs = search needs
 pull-at-requires : tie.Need-pull-at-requires
 pull-at-requires c κs = search needs
 
+copy-at-requires : tie.Need-copy-at-requires
+copy-at-requires c κs = search needs
+
+write-at-requires : tie.Need-write-at-requires
+write-at-requires c κs = search needs
+
 fields-at-requires : tie.Need-fields-at-requires
 fields-at-requires c κs = search needs
 
@@ -35,17 +41,33 @@ returns-3 c = c .pull-at .ensures ∙ simp (lt-leb _ _ (c .before .before .befor
 
 returns-4 : tie.Need-returns-4
 unfolding requestAt
-returns-4 c = c .fields-at .ensures ∙ simp (lt-leb _ _ (c .before .before .before .if1 .left), c .before .match .keys3)
+returns-4 c = c .copy-at .ensures ∙ simp (lt-leb _ _ (c .before .before .before .if1 .left), c .before .match .keys3)
 
 returns-5 : tie.Need-returns-5
 unfolding requestAt
-returns-5 c = c .signed-at .ensures ∙ simp (lt-leb _ _ (c .before .before .before .if1 .left), c .before .match .keys4)
+returns-5 c = c .write-at .ensures ∙ simp (lt-leb _ _ (c .before .before .before .if1 .left), c .before .match .keys4)
 
 returns-6 : tie.Need-returns-6
 unfolding requestAt
-returns-6 c =
+returns-6 c = c .fields-at .ensures ∙ simp (lt-leb _ _ (c .before .before .before .if1 .left), c .before .match .keys5)
+
+returns-7 : tie.Need-returns-7
+unfolding requestAt
+returns-7 c = c .signed-at .ensures ∙ simp (lt-leb _ _ (c .before .before .before .if1 .left), c .before .match .keys6)
+
+returns-8 : tie.Need-returns-8
+unfolding requestAt
+returns-8 c =
     let r = c .match .rest in
-    simp (lt-leb _ _ (c .before .before .if1 .left), ne-eqb _ _ (r .1), ne-eqb _ _ (r .0 .1), ne-eqb _ _ (r .0 .0 .1), ne-eqb _ _ (r .0 .0 .0 .1))
+    simp (
+      lt-leb _ _ (c .before .before .if1 .left),
+      ne-eqb _ _ (r .1),
+      ne-eqb _ _ (r .0 .1),
+      ne-eqb _ _ (r .0 .0 .1),
+      ne-eqb _ _ (r .0 .0 .0 .1),
+      ne-eqb _ _ (r .0 .0 .0 .0 .1),
+      ne-eqb _ _ (r .0 .0 .0 .0 .0 .1),
+    )
 
 pub request-at-spec : {M : Type 1} → statement M
 request-at-spec =
@@ -55,10 +77,14 @@ request-at-spec =
     shared-slice-read-kind
     walk-at-requires
     pull-at-requires
+    copy-at-requires
+    write-at-requires
     fields-at-requires
     signed-at-requires
     returns-2
     returns-3
     returns-4
     returns-5
-    returns-6)
+    returns-6
+    returns-7
+    returns-8)

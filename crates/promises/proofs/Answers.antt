@@ -1,0 +1,335 @@
+-- Every public function of the library, and what is promised of it (specs/Contract.antt): it asks for nothing, every call ends as its
+-- contract says, and the contract leaves one answer and one content of lent memory. Not here are the functions that only print
+-- (docs/CONTRACTS.md lists them): they answer nothing and are lent nothing to write. Assumes nothing.
+use Prim.Native.Nat.{ℕ}
+use mathlib.Core.Path.{_≡_, refl}
+use mathlib.Core.List.{List}
+use base.Logic.{id⊢}
+use contract.Monad.{fact-mono}
+use denote.Ref.{now}
+use Rattle.octets.proofs as octets
+use Rattle.templates.proofs as templates
+use Rattle.sections.proofs as sections
+use Rattle.sections.proofs.indicator.Indicator as Indicator
+use Rattle.sections.proofs.identification.Identification as Identification
+use Rattle.sections.proofs.unread.LocalUse as LocalUse
+use Rattle.sections.proofs.grid_definition.GridDefinition as GridDefinition
+use Rattle.sections.proofs.prod_definition.ProdDefinition as ProdDefinition
+use Rattle.sections.proofs.repr_definition.ReprDefinition as ReprDefinition
+use Rattle.sections.proofs.bit_map.BitMap as BitMap
+use Rattle.sections.proofs.unread.DataSection as DataSection
+use Rattle.sections.proofs.unread.EndSection as EndSection
+use Rattle.products.proofs as products
+use Rattle.framing.proofs as framing
+use Rattle.order.proofs as order
+use Rattle.lines.proofs as lines
+use Rattle.state.proofs as state
+use Rattle.machine.proofs as machine
+use Rattle.numbers.proofs as numbers
+use Rattle.walk.proofs as walk
+use Rattle.pull.proofs as pull
+use Rattle.resume.proofs as resume
+use Rattle.desk.proofs as desk
+use Rattle.publish.proofs as publish
+use Rattle.writer.proofs as writer
+use Rattle.requests.proofs as requests
+use Rattle.indexing.proofs as indexing
+use Rattle.framing.specs.Search.{nextStart}
+use Rattle.framing.proofs.NextStart.{next-start-is}
+use Rattle.lines.specs.declared.Line.{Line}
+use Rattle.walk.specs.declared.tables.Answer.{Answer}
+use Rattle.pull.specs.Calls.{firstOf, pullAt}
+use Rattle.pull.specs.declared.Reader.{Reader}
+use Rattle.pull.specs.declared.Progress.{Progress}
+use Rattle.pull.specs.declared.Pulled.{Pulled}
+use Rattle.publish.specs.declared.Published.{Published}
+use Rattle.writer.specs.declared.Written.{Written}
+use Rattle.promises.specs.Contract.{Promised, Promise}
+use Rattle.promises.proofs.Told.{both, told}
+
+-- a reader is its file and its progress
+one-reader : {r : Reader} {file : _} {progress : Progress} → r .file ≡ file → r .progress ≡ progress
+    → r ≡ record { file = file; progress = progress }
+one-reader f p = rw (← f, ← p) refl
+
+both-readers : {a b : Pulled} {r : Reader} {file : _} {progress : Progress} → a ≡ b → r .file ≡ file → r .progress ≡ progress
+    → _≡_ {A = Pulled × Reader} (a, r) (b, record { file = file; progress = progress })
+both-readers e f p = rw (e, ← f, ← p) refl
+
+module _ {M : Type 1} where
+  -- octets: big-endian numbers, and the number by sign and size
+  pub octets-be16 : Promise octets.be16.ended {M = M} octets.be16.clauses octets.be16.Symbol.routine
+  octets-be16 = told _ _ _ _ _ octets.be16.Met.met (λ n. refl) (λ n. _) (λ n r e. id⊢ (n .memory) _)
+
+  pub octets-be32 : Promise octets.be32.ended {M = M} octets.be32.clauses octets.be32.Symbol.routine
+  octets-be32 = told _ _ _ _ _ octets.be32.Met.met (λ n. refl) (λ n. _) (λ n r e. id⊢ (n .memory) _)
+
+  pub octets-be64 : Promise octets.be64.ended {M = M} octets.be64.clauses octets.be64.Symbol.routine
+  octets-be64 = told _ _ _ _ _ octets.be64.Met.met (λ n. refl) (λ n. _) (λ n r e. id⊢ (n .memory) _)
+
+  pub octets-number-of : Promise octets.number_of.ended {M = M} octets.number_of.clauses octets.number_of.Symbol.routine
+  octets-number-of = told _ _ _ _ _ octets.number_of.Met.met (λ n. refl) (λ n. _) (λ n r e. id⊢ (n .memory) _)
+
+  pub octets-sign-and-size : Promise octets.sign_and_size.ended {M = M} octets.sign_and_size.clauses octets.sign_and_size.Symbol.routine
+  octets-sign-and-size = told _ _ _ _ _ octets.sign_and_size.Met.met (λ n. refl) (λ n. _) (λ n r e. id⊢ (n .memory) _)
+
+  -- templates: where a product's fields stand, by its template number
+  pub templates-supported : Promise templates.supported.ended {M = M} templates.supported.clauses templates.supported.Symbol.routine
+  templates-supported = told _ _ _ _ _ templates.supported.Met.met (λ n. refl) (λ n. _) (λ n r e. id⊢ (n .memory) _)
+
+  pub templates-generating-process :
+      Promise templates.generating_process.ended {M = M} templates.generating_process.clauses templates.generating_process.Symbol.routine
+  templates-generating-process = told _ _ _ _ _ templates.generating_process.Met.met (λ n. refl) (λ n. _) (λ n r e. id⊢ (n .memory) _)
+
+  pub templates-forecast-time :
+      Promise templates.forecast_time.ended {M = M} templates.forecast_time.clauses templates.forecast_time.Symbol.routine
+  templates-forecast-time = told _ _ _ _ _ templates.forecast_time.Met.met (λ n. refl) (λ n. _) (λ n r e. id⊢ (n .memory) _)
+
+  pub templates-fixed-surfaces :
+      Promise templates.fixed_surfaces.ended {M = M} templates.fixed_surfaces.clauses templates.fixed_surfaces.Symbol.routine
+  templates-fixed-surfaces = told _ _ _ _ _ templates.fixed_surfaces.Met.met (λ n. refl) (λ n. _) (λ n r e. id⊢ (n .memory) _)
+
+  -- sections: the kinds, and the decoded fields
+  pub Indicator-kind : Promise Indicator.kind.ended {M = M} Indicator.kind.clauses Indicator.kind.Symbol.routine
+  Indicator-kind = told _ _ _ _ _ Indicator.kind.Met.met (λ n. refl) (λ n. _) (λ n r e. id⊢ (n .memory) _)
+
+  pub Identification-kind :
+      Promise Identification.kind.ended {M = M} Identification.kind.clauses Identification.kind.Symbol.routine
+  Identification-kind = told _ _ _ _ _ Identification.kind.Met.met (λ n. refl) (λ n. _) (λ n r e. id⊢ (n .memory) _)
+
+  pub LocalUse-kind : Promise LocalUse.kind.ended {M = M} LocalUse.kind.clauses LocalUse.kind.Symbol.routine
+  LocalUse-kind = told _ _ _ _ _ LocalUse.kind.Met.met (λ n. refl) (λ n. _) (λ n r e. id⊢ (n .memory) _)
+
+  pub GridDefinition-kind :
+      Promise GridDefinition.kind.ended {M = M} GridDefinition.kind.clauses GridDefinition.kind.Symbol.routine
+  GridDefinition-kind = told _ _ _ _ _ GridDefinition.kind.Met.met (λ n. refl) (λ n. _) (λ n r e. id⊢ (n .memory) _)
+
+  pub ProdDefinition-kind :
+      Promise ProdDefinition.kind.ended {M = M} ProdDefinition.kind.clauses ProdDefinition.kind.Symbol.routine
+  ProdDefinition-kind = told _ _ _ _ _ ProdDefinition.kind.Met.met (λ n. refl) (λ n. _) (λ n r e. id⊢ (n .memory) _)
+
+  pub ReprDefinition-kind :
+      Promise ReprDefinition.kind.ended {M = M} ReprDefinition.kind.clauses ReprDefinition.kind.Symbol.routine
+  ReprDefinition-kind = told _ _ _ _ _ ReprDefinition.kind.Met.met (λ n. refl) (λ n. _) (λ n r e. id⊢ (n .memory) _)
+
+  pub BitMap-kind : Promise BitMap.kind.ended {M = M} BitMap.kind.clauses BitMap.kind.Symbol.routine
+  BitMap-kind = told _ _ _ _ _ BitMap.kind.Met.met (λ n. refl) (λ n. _) (λ n r e. id⊢ (n .memory) _)
+
+  pub DataSection-kind : Promise DataSection.kind.ended {M = M} DataSection.kind.clauses DataSection.kind.Symbol.routine
+  DataSection-kind = told _ _ _ _ _ DataSection.kind.Met.met (λ n. refl) (λ n. _) (λ n r e. id⊢ (n .memory) _)
+
+  pub EndSection-kind : Promise EndSection.kind.ended {M = M} EndSection.kind.clauses EndSection.kind.Symbol.routine
+  EndSection-kind = told _ _ _ _ _ EndSection.kind.Met.met (λ n. refl) (λ n. _) (λ n r e. id⊢ (n .memory) _)
+
+  pub sections-kind-of : Promise sections.kind_of.ended {M = M} sections.kind_of.clauses sections.kind_of.Symbol.routine
+  sections-kind-of = told _ _ _ _ _ sections.kind_of.Met.met (λ n. refl) (λ n. _) (λ n r e. id⊢ (n .memory) _)
+
+  pub sections-least-payload-of :
+      Promise sections.least_payload_of.ended {M = M} sections.least_payload_of.clauses sections.least_payload_of.Symbol.routine
+  sections-least-payload-of = told _ _ _ _ _ sections.least_payload_of.Met.met (λ n. refl) (λ n. _) (λ n r e. id⊢ (n .memory) _)
+
+  pub sections-values-of : Promise sections.values_of.ended {M = M} sections.values_of.clauses sections.values_of.Symbol.routine
+  sections-values-of = told _ _ _ _ _ sections.values_of.Met.met (λ n. refl) (λ n. _) (λ n r e. id⊢ (n .memory) _)
+
+  pub Indicator-from-section :
+      Promise Indicator.from_section.ended {M = M} Indicator.from_section.clauses Indicator.from_section.Symbol.routine
+  Indicator-from-section = told _ _ _ _ _ Indicator.from_section.Met.met (λ n. refl) (λ n. _) (λ n r e. id⊢ (n .memory) _)
+
+  pub Identification-from-payload :
+      Promise Identification.from_payload.ended {M = M} Identification.from_payload.clauses Identification.from_payload.Symbol.routine
+  Identification-from-payload = told _ _ _ _ _ Identification.from_payload.Met.met (λ n. refl) (λ n. _) (λ n r e. id⊢ (n .memory) _)
+
+  pub GridDefinition-from-payload :
+      Promise GridDefinition.from_payload.ended {M = M} GridDefinition.from_payload.clauses GridDefinition.from_payload.Symbol.routine
+  GridDefinition-from-payload = told _ _ _ _ _ GridDefinition.from_payload.Met.met (λ n. refl) (λ n. _) (λ n r e. id⊢ (n .memory) _)
+
+  pub ProdDefinition-from-payload :
+      Promise ProdDefinition.from_payload.ended {M = M} ProdDefinition.from_payload.clauses ProdDefinition.from_payload.Symbol.routine
+  ProdDefinition-from-payload = told _ _ _ _ _ ProdDefinition.from_payload.Met.met (λ n. refl) (λ n. _) (λ n r e. id⊢ (n .memory) _)
+
+  pub ReprDefinition-from-payload :
+      Promise ReprDefinition.from_payload.ended {M = M} ReprDefinition.from_payload.clauses ReprDefinition.from_payload.Symbol.routine
+  ReprDefinition-from-payload = told _ _ _ _ _ ReprDefinition.from_payload.Met.met (λ n. refl) (λ n. _) (λ n r e. id⊢ (n .memory) _)
+
+  pub BitMap-from-payload :
+      Promise BitMap.from_payload.ended {M = M} BitMap.from_payload.clauses BitMap.from_payload.Symbol.routine
+  BitMap-from-payload = told _ _ _ _ _ BitMap.from_payload.Met.met (λ n. refl) (λ n. _) (λ n r e. id⊢ (n .memory) _)
+
+  -- products: the product fields
+  pub products-parameter-category :
+      Promise products.parameter_category.ended {M = M} products.parameter_category.clauses products.parameter_category.Symbol.routine
+  products-parameter-category = told _ _ _ _ _ products.parameter_category.Met.met (λ n. refl) (λ n. _) (λ n r e. id⊢ (n .memory) _)
+
+  pub products-parameter-number :
+      Promise products.parameter_number.ended {M = M} products.parameter_number.clauses products.parameter_number.Symbol.routine
+  products-parameter-number = told _ _ _ _ _ products.parameter_number.Met.met (λ n. refl) (λ n. _) (λ n r e. id⊢ (n .memory) _)
+
+  pub products-generating-process :
+      Promise products.generating_process.ended {M = M} products.generating_process.clauses products.generating_process.Symbol.routine
+  products-generating-process = told _ _ _ _ _ products.generating_process.Met.met (λ n. refl) (λ n. _) (λ n r e. id⊢ (n .memory) _)
+
+  pub products-forecast-time :
+      Promise products.forecast_time.ended {M = M} products.forecast_time.clauses products.forecast_time.Symbol.routine
+  products-forecast-time = told _ _ _ _ _ products.forecast_time.Met.met (λ n. refl) (λ n. _) (λ n r e. id⊢ (n .memory) _)
+
+  pub products-fixed-surfaces :
+      Promise products.fixed_surfaces.ended {M = M} products.fixed_surfaces.clauses products.fixed_surfaces.Symbol.routine
+  products-fixed-surfaces = told _ _ _ _ _ products.fixed_surfaces.Met.met (λ n. refl) (λ n. _) (λ n r e. id⊢ (n .memory) _)
+
+  -- framing: where the next message starts, and what stands there. `next_start`'s contract says which start is the first: there is one
+  pub framing-next-start : Promise framing.next_start.ended {M = M} framing.next_start.clauses framing.next_start.Symbol.routine
+  framing-next-start =
+      told _ _ _ _ _ framing.next_start.Met.met (λ n. refl) (λ n. nextStart (now (n .arguments .0)) (n .arguments .1 .0))
+      (λ n r e. fact-mono (n .memory) _ _ (next-start-is (now (n .arguments .0)) (n .arguments .1 .0) r))
+
+  pub framing-read-at : Promise framing.read_at.ended {M = M} framing.read_at.clauses framing.read_at.Symbol.routine
+  framing-read-at = told _ _ _ _ _ framing.read_at.Met.met (λ n. refl) (λ n. _) (λ n r e. id⊢ (n .memory) _)
+
+  -- order: which section may come next
+  pub order-judge : Promise order.judge.ended {M = M} order.judge.clauses order.judge.Symbol.routine
+  order-judge = told _ _ _ _ _ order.judge.Met.met (λ n. refl) (λ n. _) (λ n r e. id⊢ (n .memory) _)
+
+  pub order-completing : Promise order.completing.ended {M = M} order.completing.clauses order.completing.Symbol.routine
+  order-completing = told _ _ _ _ _ order.completing.Met.met (λ n. refl) (λ n. _) (λ n r e. id⊢ (n .memory) _)
+
+  pub order-between-messages :
+      Promise order.between_messages.ended {M = M} order.between_messages.clauses order.between_messages.Symbol.routine
+  order-between-messages = told _ _ _ _ _ order.between_messages.Met.met (λ n. refl) (λ n. _) (λ n r e. id⊢ (n .memory) _)
+
+  pub order-judge-all : Promise order.judge_all.ended {M = M} order.judge_all.clauses order.judge_all.Symbol.routine
+  order-judge-all = told _ _ _ _ _ order.judge_all.Met.met (λ n. refl) (λ n. _) (λ n r e. id⊢ (n .memory) _)
+
+  -- lines: what is in force, and a submessage's line
+  pub lines-opened : Promise lines.opened.ended {M = M} lines.opened.clauses lines.opened.Symbol.routine
+  lines-opened = told _ _ _ _ _ lines.opened.Met.met (λ n. refl) (λ n. _) (λ n r e. id⊢ (n .memory) _)
+
+  pub lines-in-force : Promise lines.in_force.ended {M = M} lines.in_force.clauses lines.in_force.Symbol.routine
+  lines-in-force = told _ _ _ _ _ lines.in_force.Met.met (λ n. refl) (λ n. _) (λ n r e. id⊢ (n .memory) _)
+
+  pub lines-with-submessage :
+      Promise lines.with_submessage.ended {M = M} lines.with_submessage.clauses lines.with_submessage.Symbol.routine
+  lines-with-submessage = told _ _ _ _ _ lines.with_submessage.Met.met (λ n. refl) (λ n. _) (λ n r e. id⊢ (n .memory) _)
+
+  pub lines-line-of : Promise lines.line_of.ended {M = M} lines.line_of.clauses lines.line_of.Symbol.routine
+  lines-line-of = told _ _ _ _ _ lines.line_of.Met.met (λ n. refl) (λ n. _) (λ n r e. id⊢ (n .memory) _)
+
+  -- state: how the walk's state may change
+  pub state-unstarted : Promise state.unstarted.ended {M = M} state.unstarted.clauses state.unstarted.Symbol.routine
+  state-unstarted = told _ _ _ _ _ state.unstarted.Met.met (λ n. refl) (λ n. _) (λ n r e. id⊢ (n .memory) _)
+
+  pub state-afresh : Promise state.afresh.ended {M = M} state.afresh.clauses state.afresh.Symbol.routine
+  state-afresh = told _ _ _ _ _ state.afresh.Met.met (λ n. refl) (λ n. _) (λ n r e. id⊢ (n .memory) _)
+
+  pub state-refuse : Promise state.refuse.ended {M = M} state.refuse.clauses state.refuse.Symbol.routine
+  state-refuse = told _ _ _ _ _ state.refuse.Met.met (λ n. refl) (λ n. _) (λ n r e. id⊢ (n .memory) _)
+
+  pub state-finish : Promise state.finish.ended {M = M} state.finish.clauses state.finish.Symbol.routine
+  state-finish = told _ _ _ _ _ state.finish.Met.met (λ n. refl) (λ n. _) (λ n r e. id⊢ (n .memory) _)
+
+  pub state-complete : Promise state.complete.ended {M = M} state.complete.clauses state.complete.Symbol.routine
+  state-complete = told _ _ _ _ _ state.complete.Met.met (λ n. refl) (λ n. _) (λ n r e. id⊢ (n .memory) _)
+
+  pub state-pass : Promise state.pass.ended {M = M} state.pass.clauses state.pass.Symbol.routine
+  state-pass = told _ _ _ _ _ state.pass.Met.met (λ n. refl) (λ n. _) (λ n r e. id⊢ (n .memory) _)
+
+  pub state-close : Promise state.close.ended {M = M} state.close.clauses state.close.Symbol.routine
+  state-close = told _ _ _ _ _ state.close.Met.met (λ n. refl) (λ n. _) (λ n r e. id⊢ (n .memory) _)
+
+  -- machine: one step of the walk
+  pub machine-unlimited : Promise machine.unlimited.ended {M = M} machine.unlimited.clauses machine.unlimited.Symbol.routine
+  machine-unlimited = told _ _ _ _ _ machine.unlimited.Met.met (λ n. refl) (λ n. _) (λ n r e. id⊢ (n .memory) _)
+
+  pub machine-advance : Promise machine.advance.ended {M = M} machine.advance.clauses machine.advance.Symbol.routine
+  machine-advance = told _ _ _ _ _ machine.advance.Met.met (λ n. refl) (λ n. _) (λ n r e. id⊢ (n .memory) _)
+
+  pub machine-start : Promise machine.start.ended {M = M} machine.start.clauses machine.start.Symbol.routine
+  machine-start = told _ _ _ _ _ machine.start.Met.met (λ n. refl) (λ n. _) (λ n r e. id⊢ (n .memory) _)
+
+  -- numbers: document 01's
+  pub numbers-refusal-number :
+      Promise numbers.refusal_number.ended {M = M} numbers.refusal_number.clauses numbers.refusal_number.Symbol.routine
+  numbers-refusal-number = told _ _ _ _ _ numbers.refusal_number.Met.met (λ n. refl) (λ n. _) (λ n r e. id⊢ (n .memory) _)
+
+  pub numbers-refusal-detail :
+      Promise numbers.refusal_detail.ended {M = M} numbers.refusal_detail.clauses numbers.refusal_detail.Symbol.routine
+  numbers-refusal-detail = told _ _ _ _ _ numbers.refusal_detail.Met.met (λ n. refl) (λ n. _) (λ n r e. id⊢ (n .memory) _)
+
+  pub numbers-end-of : Promise numbers.end_of.ended {M = M} numbers.end_of.clauses numbers.end_of.Symbol.routine
+  numbers-end-of = told _ _ _ _ _ numbers.end_of.Met.met (λ n. refl) (λ n. _) (λ n r e. id⊢ (n .memory) _)
+
+  pub numbers-stored : Promise numbers.stored.ended {M = M} numbers.stored.clauses numbers.stored.Symbol.routine
+  numbers-stored = told _ _ _ _ _ numbers.stored.Met.met (λ n. refl) (λ n. _) (λ n r e. id⊢ (n .memory) _)
+
+  pub numbers-unplaced : Promise numbers.unplaced.ended {M = M} numbers.unplaced.clauses numbers.unplaced.Symbol.routine
+  numbers-unplaced = told _ _ _ _ _ numbers.unplaced.Met.met (λ n. refl) (λ n. _) (λ n r e. id⊢ (n .memory) _)
+
+  -- walk: the answer and both tables
+  pub walk-walk :
+      Promised walk.walk.ended {M = M} walk.walk.clauses walk.walk.Symbol.routine (λ κs. Answer × (List ℕ × List Line))
+      (λ κs r e. (r, (now (e .1 .0), now (e .1 .1 .0))))
+  walk-walk =
+      told _ _ _ _ _ walk.walk.Met.met (λ n. refl) (λ n. _)
+      (λ n r e. both (n .memory) (id⊢ (n .memory) _) (both (n .memory) (id⊢ (n .memory) _) (id⊢ (n .memory) _)))
+
+  -- pull: the reader that keeps the file and its place together; of `next` the answer and the reader that it leaves are seen
+  pub pull-first : Promise pull.first.ended {M = M} pull.first.clauses pull.first.Symbol.routine
+  pull-first = told _ _ _ _ _ pull.first.Met.met (λ n. refl) (λ n. _) (λ n r e. id⊢ (n .memory) _)
+
+  pub pull-pull-at : Promise pull.pull_at.ended {M = M} pull.pull_at.clauses pull.pull_at.Symbol.routine
+  pull-pull-at = told _ _ _ _ _ pull.pull_at.Met.met (λ n. refl) (λ n. _) (λ n r e. id⊢ (n .memory) _)
+
+  pub pull-new : Promise pull.new.ended {M = M} pull.new.clauses pull.new.Symbol.routine
+  pull-new =
+      told _ _ _ _ _ pull.new.Met.met (λ n. refl) (λ n. record { file = n .arguments .0; progress = firstOf (now (n .arguments .0)) })
+      (λ n r e. fact-mono (n .memory) _ _ (λ h. one-reader (h .0) (h .1)))
+
+  pub pull-Reader-next :
+      Promised pull.Reader.next.ended {M = M} pull.Reader.next.clauses pull.Reader.next.Symbol.routine
+      (λ κs. Pulled × Reader) (λ κs r e. (r, now (e .0)))
+  pull-Reader-next =
+      told _ _ _ _ _ pull.Reader.next.Met.met (λ n. refl)
+      (λ n.
+      let reader = now (n .arguments .0) in
+      let one = pullAt (now (reader .file)) (reader .progress) in
+      (one .answer, record { file = reader .file; progress = one .next }))
+      (λ n r e. fact-mono (n .memory) _ _ (λ h. both-readers (h .0) (h .1 .0) (h .1 .1)))
+
+  -- resume: the reader's `next` at a place that is passed
+  pub resume-next-of : Promise resume.next_of.ended {M = M} resume.next_of.clauses resume.next_of.Symbol.routine
+  resume-next-of = told _ _ _ _ _ resume.next_of.Met.met (λ n. refl) (λ n. _) (λ n r e. id⊢ (n .memory) _)
+
+  -- desk: the answer, all lines, and the rows that were lent
+  pub desk-walk-at-desk :
+      Promised desk.walk_at_desk.ended {M = M} desk.walk_at_desk.clauses desk.walk_at_desk.Symbol.routine
+      (λ κs. Answer × (List Line × List ℕ))
+      (λ κs r e. (r .answer, (r .lines, now (e .1 .0))))
+  desk-walk-at-desk =
+      told _ _ _ _ _ desk.walk_at_desk.Met.met (λ n. refl) (λ n. _)
+      (λ n r e. both (n .memory) (id⊢ (n .memory) _) (both (n .memory) (id⊢ (n .memory) _) (id⊢ (n .memory) _)))
+
+  -- publish: the answer and the whole destination
+  pub publish-publish :
+      Promised publish.publish.ended {M = M} publish.publish.clauses publish.publish.Symbol.routine
+      (λ κs. Published × List ℕ) (λ κs r e. (r, now (e .1 .0)))
+  publish-publish =
+      told _ _ _ _ _ publish.publish.Met.met (λ n. refl) (λ n. _) (λ n r e. both (n .memory) (id⊢ (n .memory) _) (id⊢ (n .memory) _))
+
+  pub publish-copy-end : Promise publish.copy_end.ended {M = M} publish.copy_end.clauses publish.copy_end.Symbol.routine
+  publish-copy-end = told _ _ _ _ _ publish.copy_end.Met.met (λ n. refl) (λ n. _) (λ n r e. id⊢ (n .memory) _)
+
+  -- writer: the answer and the whole destination
+  pub writer-write :
+      Promised writer.write.ended {M = M} writer.write.clauses writer.write.Symbol.routine (λ κs. Written × List ℕ)
+      (λ κs r e. (r, now (e .1 .1 .1 .1 .1 .0)))
+  writer-write =
+      told _ _ _ _ _ writer.write.Met.met (λ n. refl) (λ n. _) (λ n r e. both (n .memory) (id⊢ (n .memory) _) (id⊢ (n .memory) _))
+
+  pub writer-write-end : Promise writer.write_end.ended {M = M} writer.write_end.clauses writer.write_end.Symbol.routine
+  writer-write-end = told _ _ _ _ _ writer.write_end.Met.met (λ n. refl) (λ n. _) (λ n r e. id⊢ (n .memory) _)
+
+  -- requests, indexing: the request that stands at a place of the input; how many of the lines counted a table holds
+  pub requests-request-at : Promise requests.request_at.ended {M = M} requests.request_at.clauses requests.request_at.Symbol.routine
+  requests-request-at = told _ _ _ _ _ requests.request_at.Met.met (λ n. refl) (λ n. _) (λ n r e. id⊢ (n .memory) _)
+
+  pub indexing-at-most : Promise indexing.at_most.ended {M = M} indexing.at_most.clauses indexing.at_most.Symbol.routine
+  indexing-at-most = told _ _ _ _ _ indexing.at_most.Met.met (λ n. refl) (λ n. _) (λ n r e. id⊢ (n .memory) _)

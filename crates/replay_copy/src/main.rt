@@ -1,0 +1,4 @@
+// `replay` over the stored list of public copies.
+fn main() {
+    replaying::run();
+}

@@ -1,0 +1,4 @@
+// `replay` over the stored list of plans at each edge of the writer's checks.
+fn main() {
+    replaying::run();
+}

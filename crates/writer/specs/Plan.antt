@@ -1,0 +1,101 @@
+-- A plan of a message: its sections, and the checks 15 to 19 in document 01's order, each over the whole plan before the next
+-- (01, "The writer", "Refusal numbers"). Assumes nothing.
+use Prim.Native.Nat.{ℕ, _+_}
+use mathlib.Core.Bool.{Bool, false, _||_}
+use mathlib.Core.List.{List, [], _∷_}
+use lib.Dec.{ltb}
+use lib.ListN.{length}
+use Rattle.octets.specs.Choice.{pick}
+use Rattle.sections.specs.Kinds.{leastPayloadOf}
+use Rattle.sections.specs.declared.kinds.LeastPayload.{LeastPayload}
+use Rattle.sections.specs.declared.kinds.LeastPayload.the-variants.{Octets, NoHeader}
+use Rattle.order.specs.Order.{judged}
+use Rattle.order.specs.declared.Order.{Order}
+use Rattle.order.specs.declared.Order.the-variants.{AfterIndicator}
+use Rattle.order.specs.declared.Judged.{Judged}
+use Rattle.order.specs.declared.Judged.the-variants.{Fits, Closes, Misplaced, NoGrid}
+use Rattle.lines.specs.Lines.{place}
+use Rattle.machine.specs.Machine.{mostOctets}
+use Rattle.writer.specs.declared.Check.{Check}
+use Rattle.writer.specs.declared.Check.the-variants.{Passed, At}
+use Rattle.writer.specs.declared.Written.{Written}
+use Rattle.writer.specs.declared.Written.the-variants.{Whole, TooManySections, NotOneMessage, OutsideStore, PayloadSize, NoRoom}
+
+-- a section of a plan: its number, and the part of the store that is its payload
+pub record Part : Type 0 where
+  pub number : ℕ
+  pub offset : ℕ
+  pub length : ℕ
+
+-- a plan is lent as rows of three numbers; one or two left over are no section
+unfoldable pub partsOf : List ℕ → List Part
+partsOf [] = []
+partsOf (number ∷ []) = []
+partsOf (number ∷ offset ∷ []) = []
+partsOf (number ∷ offset ∷ octets ∷ more) = record { number = number; offset = offset; length = octets } ∷ partsOf more
+
+-- a number that may come next goes on; any other, 0 and 8 too, is at fault
+abbrev pub orAt : Judged → ℕ → (Order → Check) → Check
+orAt (Fits next) at later = later next
+orAt Closes at later = At at
+orAt Misplaced at later = At at
+orAt NoGrid at later = At at
+
+-- at the plan's end an 8 has to close the message
+abbrev pub closedAt : Judged → ℕ → Check
+closedAt Closes at = Passed
+closedAt (Fits next) at = At at
+closedAt Misplaced at = At at
+closedAt NoGrid at = At at
+
+-- 16: the first place whose number can't come next, or the plan's length if only the 8 misfits
+unfoldable pub misfitFrom : Order → ℕ → List Part → Check
+misfitFrom order at [] = closedAt (judged order 8) at
+misfitFrom order at (part ∷ more) = orAt (judged order (part .number)) at (λ next. misfitFrom next (at + 1) more)
+
+-- after a section 0
+abbrev pub misfit : List Part → Check
+misfit parts = misfitFrom AfterIndicator 0 parts
+
+-- the first place, counted on from one, of a part that a test finds at fault
+unfoldable pub firstAt : (Part → Bool) → ℕ → List Part → Check
+firstAt faulty at [] = Passed
+firstAt faulty at (part ∷ more) = let later = firstAt faulty (at + 1) more in pick (faulty part) (At at) later
+
+-- 17: offset plus length over the store's length
+unfoldable pub isOutside : ℕ → Part → Bool
+isOutside store part = ltb store (part .offset + part .length)
+
+-- a payload under its kind's least
+abbrev pub underLeast : LeastPayload → ℕ → Bool
+underLeast (Octets least) octets = ltb octets least
+underLeast NoHeader octets = false
+
+-- 18: payload under its least, or so long that its section's length is no number of four octets
+unfoldable pub isWrongSize : Part → Bool
+isWrongSize part = underLeast (leastPayloadOf (part .number)) (part .length) || ltb 4294967290 (part .length)
+
+-- payload and 5 for each section
+unfoldable pub sizeOf : List Part → ℕ
+sizeOf [] = 0
+sizeOf (part ∷ more) = part .length + 5 + sizeOf more
+
+-- total length: 16, the sections, and 4
+abbrev pub totalOf : List Part → ℕ
+totalOf parts = 16 + (sizeOf parts + 4)
+
+-- a check that names a place refuses; after one that passes comes the next
+abbrev pub unless : Check → (ℕ → Written) → Written → Written
+unless (At at) refused later = refused at
+unless Passed refused later = later
+
+-- the checks: 15, 16, 17, 18, 19
+unfoldable pub judgedPlan : List Part → ℕ → ℕ → Written
+judgedPlan parts store room =
+    pick (ltb 4096 (length parts)) TooManySections
+    (unless (misfit parts) (λ at. NotOneMessage (place at))
+    (unless (firstAt (isOutside store) 0 parts) (λ at. OutsideStore (place at))
+    (unless (firstAt isWrongSize 0 parts) (λ at. PayloadSize (place at))
+    (pick (ltb room (totalOf parts)) NoRoom
+    (pick (ltb mostOctets (totalOf parts)) NoRoom
+    (Whole (totalOf parts)))))))
