@@ -98,7 +98,7 @@ fn minus(size: u64) -> i32
     requires { ⌜ size < 2 ^ 31 ⌝ }
     ensures { λ r. ⌜ r ≡ negℤ (pos size) ⌝ }
 {
-    0 - (size as i32)
+    -(size as i32)
 }
 
 // The number that a slice of 1 to 4 octets writes by sign and size; of any other length: no number.

@@ -4,6 +4,7 @@
 use Prim.Native.Nat.{ℕ}
 use mathlib.Core.Path.{_≡_, refl}
 use mathlib.Core.List.{List}
+use lib.ListN.{length}
 use base.Logic.{id⊢}
 use contract.Monad.{fact-mono}
 use denote.Ref.{now}
@@ -34,6 +35,7 @@ use Rattle.publish.proofs as publish
 use Rattle.writer.proofs as writer
 use Rattle.requests.proofs as requests
 use Rattle.indexing.proofs as indexing
+use Rattle.buttresk.proofs as buttresk
 use Rattle.framing.specs.Search.{nextStart}
 use Rattle.framing.proofs.NextStart.{next-start-is}
 use Rattle.lines.specs.declared.Line.{Line}
@@ -44,8 +46,12 @@ use Rattle.pull.specs.declared.Progress.{Progress}
 use Rattle.pull.specs.declared.Pulled.{Pulled}
 use Rattle.publish.specs.declared.Published.{Published}
 use Rattle.writer.specs.declared.Written.{Written}
+use Rattle.state.specs.declared.walk.Walk.{Walk}
+use Rattle.walk.specs.Turns.{stepOf, rowsAfter}
+use Rattle.buttresk.specs.declared.walking.WalkAnswer.{WalkAnswer}
+use Rattle.buttresk.specs.declared.storing.StoreAnswer.{StoreAnswer}
 use Rattle.promises.specs.Contract.{Promised, Promise}
-use Rattle.promises.proofs.Told.{both, told}
+use Rattle.promises.proofs.Told.{both, then-by, told}
 
 -- a reader is its file and its progress
 one-reader : {r : Reader} {file : _} {progress : Progress} → r .file ≡ file → r .progress ≡ progress
@@ -263,7 +269,17 @@ module _ {M : Type 1} where
   pub numbers-unplaced : Promise numbers.unplaced.ended {M = M} numbers.unplaced.clauses numbers.unplaced.Symbol.routine
   numbers-unplaced = told _ _ _ _ _ numbers.unplaced.Met.met (λ n. refl) (λ n. _) (λ n r e. id⊢ (n .memory) _)
 
-  -- walk: the answer and both tables
+  -- walk: one step and the section table after it; the answer and both tables
+  pub walk-step :
+      Promised walk.step.ended {M = M} walk.step.clauses walk.step.Symbol.routine (λ κs. Walk × List ℕ) (λ κs r e. (r, now (e .1 .0)))
+  walk-step =
+      told _ _ _ _ _ walk.step.Met.met (λ n. refl)
+      (λ n.
+      let rows = now (n .arguments .1 .0) in
+      let next = stepOf (now (n .arguments .0)) (length rows) (n .arguments .1 .1 .0) (n .arguments .1 .1 .1 .0) in
+      (next, rowsAfter (next .passed) (next .last) rows))
+      (λ n r e. then-by (n .memory) _ (λ (w : Walk). rowsAfter (w .passed) (w .last) (now (n .arguments .1 .0))) (id⊢ (n .memory) _) (id⊢ (n .memory) _))
+
   pub walk-walk :
       Promised walk.walk.ended {M = M} walk.walk.clauses walk.walk.Symbol.routine (λ κs. Answer × (List ℕ × List Line))
       (λ κs r e. (r, (now (e .1 .0), now (e .1 .1 .0))))
@@ -333,3 +349,43 @@ module _ {M : Type 1} where
 
   pub indexing-at-most : Promise indexing.at_most.ended {M = M} indexing.at_most.clauses indexing.at_most.Symbol.routine
   indexing-at-most = told _ _ _ _ _ indexing.at_most.Met.met (λ n. refl) (λ n. _) (λ n r e. id⊢ (n .memory) _)
+
+  -- buttresk, the C face: of the walk the answer and both tables, of the copy and the writer the answer and the destination
+  pub buttresk-walk :
+      Promised buttresk.buttresk_walk.ended {M = M} buttresk.buttresk_walk.clauses buttresk.buttresk_walk.Symbol.routine
+      (λ κs. WalkAnswer × (List ℕ × List ℕ)) (λ κs r e. (r, (now (e .1 .0), now (e .1 .1 .0))))
+  buttresk-walk =
+      told _ _ _ _ _ buttresk.buttresk_walk.Met.met (λ n. refl) (λ n. _)
+      (λ n r e. both (n .memory) (id⊢ (n .memory) _) (both (n .memory) (id⊢ (n .memory) _) (id⊢ (n .memory) _)))
+
+  pub buttresk-publish :
+      Promised buttresk.buttresk_publish.ended {M = M} buttresk.buttresk_publish.clauses buttresk.buttresk_publish.Symbol.routine
+      (λ κs. StoreAnswer × List ℕ) (λ κs r e. (r, now (e .1 .0)))
+  buttresk-publish =
+      told _ _ _ _ _ buttresk.buttresk_publish.Met.met (λ n. refl) (λ n. _)
+      (λ n r e. both (n .memory) (id⊢ (n .memory) _) (id⊢ (n .memory) _))
+
+  pub buttresk-write :
+      Promised buttresk.buttresk_write.ended {M = M} buttresk.buttresk_write.clauses buttresk.buttresk_write.Symbol.routine
+      (λ κs. StoreAnswer × List ℕ) (λ κs r e. (r, now (e .1 .1 .1 .1 .1 .0)))
+  buttresk-write =
+      told _ _ _ _ _ buttresk.buttresk_write.Met.met (λ n. refl) (λ n. _)
+      (λ n r e. both (n .memory) (id⊢ (n .memory) _) (id⊢ (n .memory) _))
+
+  pub buttresk-indicator : Promise buttresk.buttresk_indicator.ended {M = M} buttresk.buttresk_indicator.clauses buttresk.buttresk_indicator.Symbol.routine
+  buttresk-indicator = told _ _ _ _ _ buttresk.buttresk_indicator.Met.met (λ n. refl) (λ n. _) (λ n r e. id⊢ (n .memory) _)
+
+  pub buttresk-identification : Promise buttresk.buttresk_identification.ended {M = M} buttresk.buttresk_identification.clauses buttresk.buttresk_identification.Symbol.routine
+  buttresk-identification = told _ _ _ _ _ buttresk.buttresk_identification.Met.met (λ n. refl) (λ n. _) (λ n r e. id⊢ (n .memory) _)
+
+  pub buttresk-grid-definition : Promise buttresk.buttresk_grid_definition.ended {M = M} buttresk.buttresk_grid_definition.clauses buttresk.buttresk_grid_definition.Symbol.routine
+  buttresk-grid-definition = told _ _ _ _ _ buttresk.buttresk_grid_definition.Met.met (λ n. refl) (λ n. _) (λ n r e. id⊢ (n .memory) _)
+
+  pub buttresk-product-definition : Promise buttresk.buttresk_product_definition.ended {M = M} buttresk.buttresk_product_definition.clauses buttresk.buttresk_product_definition.Symbol.routine
+  buttresk-product-definition = told _ _ _ _ _ buttresk.buttresk_product_definition.Met.met (λ n. refl) (λ n. _) (λ n r e. id⊢ (n .memory) _)
+
+  pub buttresk-representation : Promise buttresk.buttresk_representation.ended {M = M} buttresk.buttresk_representation.clauses buttresk.buttresk_representation.Symbol.routine
+  buttresk-representation = told _ _ _ _ _ buttresk.buttresk_representation.Met.met (λ n. refl) (λ n. _) (λ n r e. id⊢ (n .memory) _)
+
+  pub buttresk-bit-map : Promise buttresk.buttresk_bit_map.ended {M = M} buttresk.buttresk_bit_map.clauses buttresk.buttresk_bit_map.Symbol.routine
+  buttresk-bit-map = told _ _ _ _ _ buttresk.buttresk_bit_map.Met.met (λ n. refl) (λ n. _) (λ n r e. id⊢ (n .memory) _)

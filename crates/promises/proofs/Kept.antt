@@ -9,14 +9,15 @@ use Rattle.laws.proofs.Counts.{end-places-are-ends, fewer-than-octets, within-r
 use Rattle.laws.proofs.Places.{place-is-count, input-over-at-last}
 use Rattle.blind.proofs.Theorems.{blindness, lent-blindness, public-copies}
 use Rattle.promises.specs.Promises.{Demand1, Demand2, Demand3}
-use Rattle.promises.proofs.Leaves.{walk-leaves, copy-leaves, write-leaves}
+use Rattle.promises.proofs.Leaves.{walk-stores, walk-leaves, copy-leaves, write-leaves}
+use Rattle.promises.proofs.Pulling.{pull-passes}
 use Rattle.promises.proofs.Copying.{copied, copy-refuses, copy-whole}
 use Rattle.promises.proofs.Writing.{write-refuses, write-takes, reads-back}
 use Rattle.promises.proofs.Blind.{one-end, clean, one, public, no-value, value-goes, outside-goes}
 
--- all else lent is untouched
+-- what was stored stands, and all else lent is untouched
 pub demand-1 : Demand1
-demand-1 = record { walk-leaves = walk-leaves; copy-leaves = copy-leaves; write-leaves = write-leaves }
+demand-1 = record { walk-stores = walk-stores; walk-leaves = walk-leaves; copy-leaves = copy-leaves; write-leaves = write-leaves }
 
 -- what makes the definitions worth believing
 pub demand-2 : Demand2
@@ -37,6 +38,7 @@ demand-2 =
       never-full = unlimited-is-never-full;
       clean-in-any-room = clean-in-any-room;
       pull-is-walk = sequence;
+      pull-passes = pull-passes;
       copy-refuses = copy-refuses;
       copy-whole = copy-whole;
       write-refuses = write-refuses;

@@ -4,8 +4,8 @@ use native.Mathlib.Omega.{arith}
 use mathlib.Core.Path.{_≡_, refl, sym, _∙_}
 use mathlib.Core.List.{List, [], _∷_, _++_}
 use lib.Dec.{ltb}
-use lib.ListN.{length, drop, length-append, length-drop}
-use lib.Seq.{drop-at}
+use lib.ListN.{length, take, drop, length-append, length-drop}
+use lib.Seq.{take-at, drop-at}
 use borrow.Author.Tests.{ltb-false}
 use Rattle.framing.specs.declared.read.Section.{Section}
 use Rattle.framing.proofs.Tests.{by-test}
@@ -47,7 +47,20 @@ unfolding rowsOf
 three-each [] = refl
 three-each (s ∷ more) = let later = three-each more in omega arith
 
--- a walk stores rows and lines in front, as many as there is room for
+-- a walk stores its rows and lines in front
+pub walk-stores : (file rows : List ℕ) (lines : List Line)
+    → let tables = walkOf file rows lines in
+    let told = walked (roomOf (length rows) (length lines)) file in
+    (take (3 * tables .answer .sections) (tables .rows) ≡ rowsOf (told .sections))
+    × (take (tables .answer .submessages) (tables .lines) ≡ told .lines)
+unfolding walkOf
+walk-stores file rows lines =
+    let told = walked (roomOf (length rows) (length lines)) file in (
+      take-at (rowsOf (told .sections)) (drop (length (rowsOf (told .sections))) rows) (3 * length (told .sections)) (three-each (told .sections)),
+      take-at (told .lines) (drop (length (told .lines)) lines) (length (told .lines)) refl,
+    )
+
+-- and leaves the rest, as many as there is room for
 pub walk-leaves : (file rows : List ℕ) (lines : List Line)
     → let tables = walkOf file rows lines in
     (length (tables .rows) ≡ length rows) × (length (tables .lines) ≡ length lines)

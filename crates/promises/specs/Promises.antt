@@ -11,7 +11,7 @@ use Rattle.numbers.specs.Numbers.{endOf, stored, unplaced}
 use Rattle.numbers.specs.declared.End.{End}
 use Rattle.machine.specs.Machine.{unlimited}
 use Rattle.meaning.specs.Walk.{walked}
-use Rattle.walk.specs.Tables.{walkOf}
+use Rattle.walk.specs.Tables.{roomOf, rowsOf, walkOf}
 use Rattle.pull.specs.Calls.{pullAt, afterCalls}
 use Rattle.pull.specs.Pull.{pulled}
 use Rattle.publish.specs.Values.{licensed, isValue, inMessage}
@@ -40,6 +40,7 @@ use Rattle.trips.specs.ReadBack.{ReadsBack}
 use Rattle.blind.specs.Agree.{decoded}
 use Rattle.blind.specs.Blindness.{Blindness, LentBlindness, PublicCopies}
 use Rattle.promises.specs.ExactlyWhen.{CopyGiven, PlanGiven, PlanTaken}
+use Rattle.promises.specs.Handed.{passed, handed}
 
 -- an end in document 01's numbers
 abbrev pub ended : ℕ → ℕ → ℕ → ℕ → End
@@ -51,6 +52,12 @@ ended outcome place offset detail = record { outcome = outcome; place = place; o
 -- That a call ends, asks for nothing, and has one answer and one content of lent memory is promised of each public function, by name, in
 -- proofs/Answers.antt. By which number and place is under demand 2. Here is what stays untouched.
 pub record Demand1 : Type 0 where
+  -- the lines that the answer counts are the walk's, all that it told before its end, refused or clean, one after the other
+  pub walk-stores : (file rows : List ℕ) (lines : List Line)
+      → let tables = walkOf file rows lines in
+      let told = walked (roomOf (length rows) (length lines)) file in
+      (take (3 * tables .answer .sections) (tables .rows) ≡ rowsOf (told .sections))
+      × (take (tables .answer .submessages) (tables .lines) ≡ told .lines)
   -- the tables keep their lengths, and past the lines that the answer counts they are what they were
   pub walk-leaves : (file rows : List ℕ) (lines : List Line)
       → let tables = walkOf file rows lines in
@@ -92,8 +99,11 @@ pub record Demand2 : Type 0 where
   pub over-at-last : InputOverAtLast
   pub never-full : UnlimitedIsNeverFull
   pub clean-in-any-room : CleanInAnyRoom
-  -- the pull reader's sequence is the walk's, call by call
+  -- the pull reader's sequence is the walk's, call by call, in numbers too: rows, then a refusal once, then "ended"
   pub pull-is-walk : (file : List ℕ) (call : ℕ) → pullAt file (afterCalls call file) .answer ≡ pulled file call
+  pub pull-passes : (file : List ℕ) (call : ℕ) → call < length (walked unlimited file .sections)
+      → let s = getD (walked unlimited file .sections) call (record { number = 0; offset = record { 0 = 0 }; length = 0 }) in
+      handed (pullAt file (afterCalls call file) .answer) ≡ passed (s .number) (s .offset .0) (s .length)
   -- the public copy: 1 and 19 and the walk's refusals exactly when 01 says; else all of the file is written
   pub copy-refuses : (file dest : List ℕ) (n p o d : ℕ) → Not (n ≡ 0)
       → Iff (copyEnd (copyOf licensed file dest .answer) ≡ record { end = ended n p o d; written = 0 }) (CopyGiven file dest n p o d)

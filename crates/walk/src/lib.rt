@@ -3,4 +3,5 @@
 mod tables;
 
 pub use tables::Answer;
+pub use tables::step;
 pub use tables::walk;

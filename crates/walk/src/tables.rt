@@ -50,8 +50,9 @@ fn put_passed(rows: &mut [u64], passed: bool, s: Listed)
     }
 }
 
-// One step, with the row of the section that it passed stored; the line that is due is left to the caller.
-fn step(file: &[u8], rows: &mut [u64], lines: usize, w: Walk) -> Walk
+// One step, with the row of the section that it passed stored; the line that is due is left to the caller, whose table of lines may
+// have a form of its own.
+pub fn step(file: &[u8], rows: &mut [u64], lines: usize, w: Walk) -> Walk
     ensures walk { λ r. ⌜ r ≡ stepOf (now (file .entry)) (length (now (rows .entry))) lines w ⌝ }
     ensures table { λ r. ⌜ now (rows .exit) ≡ rowsAfter (r .passed) (r .last) (now (rows .entry)) ⌝ }
 {

@@ -1,0 +1,16 @@
+-- `buttresk_bit_map` meets its contract: the section has its fields, or it has none. Assumes nothing.
+use borrow.Author.Needs.{needs}
+use Rattle.buttresk.specs.Fields.{bitMapFields}
+use Rattle.buttresk.proofs.fields.buttresk_bit_map.Statement.{statement}
+use Rattle.buttresk.proofs.fields.buttresk_bit_map.Tie as tie
+
+pub buttresk-bit-map-spec : {M : Type 1} → statement M
+unfolding bitMapFields
+buttresk-bit-map-spec =
+    tie.close
+    (tie.spec
+    (λ c κs. search needs)
+    (λ c. search needs)
+    (λ c. search needs)
+    (λ c. let read = c .before .before in rw (← (read .from-payload .ensures), c .enum-told .given .1))
+    (λ c. let told = c .before in rw (← (told .before .before .from-payload .ensures), told .fields .given .1)))

@@ -1,0 +1,81 @@
+-- `buttresk_walk` meets its contract: the loop keeps `Kept`, and a walk that has ended left what was meant. Assumes nothing.
+use mathlib.Core.Path.{sym, subst, _∙_}
+use Prim.Native.Nat.{suc, _-_}
+use native.Mathlib.Omega.{arith}
+use lib.ListN.{length}
+use borrow.Author.Needs.{needs}
+use Rattle.octets.specs.Choice.{pick}
+use Rattle.state.specs.declared.walk.Walk.{Walk}
+use Rattle.buttresk.proofs.Kept.{Kept, first, same-lines, ended, in-room, falls, turn}
+use Rattle.buttresk.proofs.walking.buttresk_walk.Statement.{statement}
+use Rattle.buttresk.proofs.walking.buttresk_walk.Tie as tie
+
+abbrev Inv-loop : tie.InvT-loop
+Inv-loop file rows₀ lines₀ room w₀ rows lines w = Kept file rows₀ lines₀ w rows lines
+
+abbrev μ-loop : tie.MeasureT-loop
+μ-loop file rows₀ lines₀ room w₀ rows lines w = pick (w .going) (suc (length file - w .cursor .at .0)) 0
+
+loop-holds : tie.Need-loop-holds Inv-loop μ-loop
+loop-holds c =
+    let begin = c .before .before .before .before in
+    let file = begin .args .file .now in
+    let rows = begin .args .rows .now in
+    let lines = begin .args .lines .now in
+    subst (λ (w : Walk). Kept file rows lines w rows lines) (sym (c .start .ensures)) (first file rows lines)
+
+put-line-requires : tie.Need-put-line-requires Inv-loop μ-loop
+put-line-requires c κs =
+    let stepped = c .before .before .before in
+    let loop = stepped .before .before .before in
+    let begin = loop .before .before .before .before .before in
+    in-room (begin .args .file .now) (begin .args .rows .now) (begin .args .lines .now) (loop .loop .inv) (omega (arith, begin .good))
+    (omega (arith, begin .good)) (stepped .before .before .loop-test .taken) (stepped .step .ensures .0)
+
+loop-less : tie.Need-loop-less Inv-loop μ-loop
+loop-less c =
+    let stepped = c .before .before .before .before .before .before in
+    let loop = stepped .before .before .before in
+    let begin = loop .before .before .before .before .before in
+    falls (begin .args .file .now) (begin .args .rows .now) (begin .args .lines .now) (loop .loop .inv) (omega (arith, begin .good))
+    (omega (arith, begin .good)) (stepped .before .before .loop-test .taken) (stepped .step .ensures .0)
+
+loop-again : tie.Need-loop-again Inv-loop μ-loop
+loop-again c =
+    let put = c .before .before in
+    let lent = put .before .before .before in
+    let stepped = lent .before in
+    let loop = stepped .before .before .before in
+    let begin = loop .before .before .before .before .before in
+    turn (begin .args .file .now) (begin .args .rows .now) (begin .args .lines .now) (loop .loop .inv) (omega (arith, begin .good))
+    (omega (arith, begin .good)) (stepped .before .before .loop-test .taken) (stepped .step .ensures .0) (lent .rows .given)
+    (stepped .step .ensures .1) (put .put-line .ensures)
+
+returns : tie.Need-returns Inv-loop μ-loop
+returns c =
+    let loop = c .before .before in
+    let begin = loop .before .before .before .before .before in
+    let meant =
+    ended (begin .args .file .now) (begin .args .rows .now) (begin .args .lines .now) (loop .loop .inv) (omega (arith, begin .good))
+    (omega (arith, begin .good)) (c .before .loop-test .left) in
+    (c .answer-of .ensures ∙ meant .0, meant .1)
+
+pub buttresk-walk-spec : {M : Type 1} → statement M
+buttresk-walk-spec =
+    tie.close
+    (tie.spec
+    Inv-loop
+    μ-loop
+    (λ c κs. search needs)
+    loop-holds
+    (λ c κs. search needs)
+    put-line-requires
+    loop-less
+    loop-again
+    (λ c κs. search needs)
+    (λ c. c .before .before .loop .inv .same-rows)
+    (λ c.
+    let loop = c .before .before in
+    let begin = loop .before .before .before .before .before in
+    same-lines (begin .args .file .now) (begin .args .rows .now) (begin .args .lines .now) (loop .loop .inv))
+    returns)

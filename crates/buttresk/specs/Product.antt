@@ -1,0 +1,64 @@
+-- The decoded fields of section 4 as numbers (01, "Fields": "Product fields"). A `known` of 1 or 0 stands beside every value that can be
+-- none; where it is 0 the value is 0 and says nothing. Assumes nothing.
+use Prim.Native.Nat.{ℕ}
+use mathlib.Core.List.{List}
+use lib.IntN.{pos}
+use Rattle.sections.specs.ProdDefinition.{prodDefinitionOf}
+use Rattle.sections.specs.declared.prod_definition.MaybeProdDefinition.{MaybeProdDefinition}
+use Rattle.sections.specs.declared.prod_definition.MaybeProdDefinition.the-variants.{Fields, NoProdDefinition}
+use Rattle.products.specs.Products.{categoryOf, numberOf, processOf, forecastOf, fixedOf}
+use Rattle.products.specs.declared.FixedSurface.{FixedSurface}
+use Rattle.products.specs.declared.MaybeOctet.{MaybeOctet}
+use Rattle.products.specs.declared.MaybeOctet.the-variants.{Octet, NoOctet}
+use Rattle.products.specs.declared.MaybeTime.{MaybeTime}
+use Rattle.products.specs.declared.MaybeTime.the-variants.{Time, NoTime}
+use Rattle.products.specs.declared.MaybeSurfaces.{MaybeSurfaces}
+use Rattle.products.specs.declared.MaybeSurfaces.the-variants.{Both, NoSurfaces}
+use Rattle.buttresk.specs.declared.product.DefinitionFields.{DefinitionFields}
+use Rattle.buttresk.specs.declared.product.OctetField.{OctetField}
+use Rattle.buttresk.specs.declared.product.TimeField.{TimeField}
+use Rattle.buttresk.specs.declared.product.Surface.{Surface}
+use Rattle.buttresk.specs.declared.product.SurfacesField.{SurfacesField}
+use Rattle.buttresk.specs.declared.product.ProductFields.{ProductFields}
+
+-- coordinates and template: none under the least payload
+unfoldable pub definitionFields : MaybeProdDefinition → DefinitionFields
+definitionFields (Fields f) = record { known = 1; coordinates = f .coordinates; template = f .template }
+definitionFields NoProdDefinition = record { known = 0; coordinates = 0; template = 0 }
+
+-- category, number, generating process
+unfoldable pub octetField : MaybeOctet → OctetField
+octetField (Octet value) = record { known = 1; value = value }
+octetField NoOctet = record { known = 0; value = 0 }
+
+-- unit and time, together or not at all
+unfoldable pub timeField : MaybeTime → TimeField
+timeField (Time t) = record { known = 1; unit = t .unit; time = t .time }
+timeField NoTime = record { known = 0; unit = 0; time = 0 }
+
+-- a surface: type, scale factor, scaled value
+abbrev pub surfaceNumbers : FixedSurface → Surface
+surfaceNumbers s = record { surface = s .surface; factor = s .factor; value = s .value }
+
+abbrev pub noSurface : Surface
+noSurface = record { surface = 0; factor = pos 0; value = pos 0 }
+
+-- both surfaces or none
+unfoldable pub surfacesField : MaybeSurfaces → SurfacesField
+surfacesField (Both first second) = record { known = 1; first = surfaceNumbers first; second = surfaceNumbers second }
+surfacesField NoSurfaces = record { known = 0; first = noSurface; second = noSurface }
+
+-- section 4
+unfoldable pub productFields : List ℕ → ProductFields
+productFields s =
+    let definition = definitionFields (prodDefinitionOf s) in
+    record {
+      known = definition .known;
+      coordinates = definition .coordinates;
+      template = definition .template;
+      category = octetField (categoryOf s);
+      number = octetField (numberOf s);
+      process = octetField (processOf s);
+      time = timeField (forecastOf s);
+      surfaces = surfacesField (fixedOf s);
+    }

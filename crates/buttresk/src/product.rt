@@ -1,0 +1,156 @@
+// The decoded fields of section 4. A `known` stands beside every value that can be none: where it is 0, the value says nothing.
+ghost use mathlib.Core.Path.{_≡_};
+ghost use Rattle.buttresk.specs.Product.{octetField, timeField, surfaceNumbers, surfacesField, productFields, definitionFields};
+use products::FixedSurface;
+use products::MaybeOctet;
+use products::MaybeSurfaces;
+use products::MaybeTime;
+use products::fixed_surfaces;
+use products::forecast_time;
+use products::generating_process;
+use products::parameter_category;
+use products::parameter_number;
+use sections::MaybeProdDefinition;
+use sections::ProdDefinition;
+
+#[repr(C)]
+pub struct OctetField {
+    pub known: u8,
+    pub value: u8,
+}
+
+#[repr(C)]
+pub struct TimeField {
+    pub known: u8,
+    pub unit: u8,
+    pub time: u32,
+}
+
+#[repr(C)]
+pub struct Surface {
+    pub surface: u8,
+    pub factor: i32,
+    pub value: i32,
+}
+
+// Both surfaces or none.
+#[repr(C)]
+pub struct SurfacesField {
+    pub known: u8,
+    pub first: Surface,
+    pub second: Surface,
+}
+
+#[repr(C)]
+pub struct ProductFields {
+    pub known: u8,
+    pub coordinates: u16,
+    pub template: u16,
+    pub category: OctetField,
+    pub number: OctetField,
+    pub process: OctetField,
+    pub time: TimeField,
+    pub surfaces: SurfacesField,
+}
+
+// What every section 4 has, whatever its template.
+struct DefinitionFields {
+    known: u8,
+    coordinates: u16,
+    template: u16,
+}
+
+fn definition_fields(maybe: MaybeProdDefinition) -> DefinitionFields
+    ensures { λ r. ⌜ r ≡ definitionFields maybe ⌝ }
+{
+    match maybe {
+        MaybeProdDefinition::Fields(fields) => DefinitionFields {
+            known: 1,
+            coordinates: fields.coordinates,
+            template: fields.template,
+        },
+        MaybeProdDefinition::NoProdDefinition => DefinitionFields {
+            known: 0,
+            coordinates: 0,
+            template: 0,
+        },
+    }
+}
+
+fn octet_field(maybe: MaybeOctet) -> OctetField
+    ensures { λ r. ⌜ r ≡ octetField maybe ⌝ }
+{
+    match maybe {
+        MaybeOctet::Octet(value) => OctetField { known: 1, value },
+        MaybeOctet::NoOctet => OctetField { known: 0, value: 0 },
+    }
+}
+
+fn time_field(maybe: MaybeTime) -> TimeField
+    ensures { λ r. ⌜ r ≡ timeField maybe ⌝ }
+{
+    match maybe {
+        MaybeTime::Time(time) => TimeField {
+            known: 1,
+            unit: time.unit,
+            time: time.time,
+        },
+        MaybeTime::NoTime => TimeField {
+            known: 0,
+            unit: 0,
+            time: 0,
+        },
+    }
+}
+
+fn surface_numbers(surface: FixedSurface) -> Surface
+    ensures { λ r. ⌜ r ≡ surfaceNumbers surface ⌝ }
+{
+    Surface {
+        surface: surface.surface,
+        factor: surface.factor,
+        value: surface.value,
+    }
+}
+
+fn surfaces_field(maybe: MaybeSurfaces) -> SurfacesField
+    ensures { λ r. ⌜ r ≡ surfacesField maybe ⌝ }
+{
+    match maybe {
+        MaybeSurfaces::Both(first, second) => SurfacesField {
+            known: 1,
+            first: surface_numbers(first),
+            second: surface_numbers(second),
+        },
+        MaybeSurfaces::NoSurfaces => {
+            let none = Surface {
+                surface: 0,
+                factor: 0,
+                value: 0,
+            };
+            SurfacesField {
+                known: 0,
+                first: none,
+                second: none,
+            }
+        }
+    }
+}
+
+// Section 4, of its payload.
+#[no_mangle]
+pub extern "C" fn buttresk_product_definition(payload: &[u8]) -> ProductFields
+    ensures { λ r. ⌜ r ≡ productFields (now (payload .entry)) ⌝ }
+{
+    let definition = definition_fields(ProdDefinition::from_payload(payload));
+    ProductFields {
+        known: definition.known,
+        coordinates: definition.coordinates,
+        template: definition.template,
+        category: octet_field(parameter_category(payload)),
+        number: octet_field(parameter_number(payload)),
+        process: octet_field(generating_process(payload)),
+        time: time_field(forecast_time(payload)),
+        surfaces: surfaces_field(fixed_surfaces(payload)),
+    }
+}

@@ -1,0 +1,18 @@
+-- What a call of the pull reader hands out, in document 01's numbers ("Order", "Refusal numbers"). Assumes nothing.
+use Prim.Native.Nat.{ℕ}
+use Rattle.numbers.specs.Numbers.{endOf}
+use Rattle.numbers.specs.declared.End.{End}
+use Rattle.state.specs.declared.refusal.Outcome.the-variants as outcome
+use Rattle.pull.specs.declared.Pulled.{Pulled}
+use Rattle.pull.specs.declared.Pulled.the-variants as pulled
+
+-- a passed section's number, offset and length; a refusal's outcome, place, offset and detail; or that it has ended
+pub data Handed : Type 0 where
+  passed : ℕ → ℕ → ℕ → Handed
+  refused : End → Handed
+  ended : Handed
+
+unfoldable pub handed : Pulled → Handed
+handed (pulled.Passed s) = passed (s .section .number) (s .section .offset .0) (s .section .length)
+handed (pulled.Refused why place offset) = refused (endOf (outcome.Refused why place offset))
+handed pulled.Ended = ended

@@ -1,0 +1,260 @@
+/*
+ * The C face, called from C: document 01's sample A and some of its neighbours, by include/buttresk.h and the archive.
+ *
+ *     rt staticlib buttresk
+ *     cc -std=c11 -Wall -Wextra -Iinclude tests/cface.c target/staticlib/libbuttresk.a -o target/cface && target/cface
+ *
+ * What is expected is written by hand from document 01. It prints each check that fails, and the count.
+ */
+#include <stdio.h>
+#include <string.h>
+#include "buttresk.h"
+
+static int checks, failed;
+
+#define EXPECT(holds)                                                \
+    do {                                                             \
+        checks++;                                                    \
+        if (!(holds)) {                                              \
+            failed++;                                                \
+            printf("%s:%d: not so: %s\n", __FILE__, __LINE__, #holds); \
+        }                                                            \
+    } while (0)
+
+/* A file that is built section by section. No payload octet is 0, so that a blanked one is seen. */
+struct file {
+    uint8_t octets[256];
+    size_t size;
+};
+
+static void add(struct file *f, const void *octets, size_t size)
+{
+    memcpy(f->octets + f->size, octets, size);
+    f->size += size;
+}
+
+static void add_start(struct file *f, uint8_t total)
+{
+    const uint8_t start[16] = {'G', 'R', 'I', 'B', 255, 255, 10, 2, 0, 0, 0, 0, 0, 0, 0, total};
+    add(f, start, sizeof start);
+}
+
+static void add_section(struct file *f, uint8_t number, uint8_t payload)
+{
+    const uint8_t header[5] = {0, 0, 0, (uint8_t)(payload + 5), number};
+    add(f, header, sizeof header);
+    for (uint8_t i = 0; i < payload; i++) {
+        f->octets[f->size++] = (uint8_t)(i + 1);
+    }
+}
+
+/* Document 01's sample A: 0, 1, 3, 4, 5, 6, 7, 8 with least payloads, 86 octets. */
+static struct file sample_a(void)
+{
+    struct file f = {.size = 0};
+    add_start(&f, 86);
+    add_section(&f, 1, 16);
+    add_section(&f, 3, 9);
+    add_section(&f, 4, 4);
+    add_section(&f, 5, 6);
+    add_section(&f, 6, 1);
+    add_section(&f, 7, 0);
+    add(&f, "7777", 4);
+    return f;
+}
+
+static int ended(struct buttresk_walk_answer a, uint64_t outcome, uint64_t place, uint64_t offset, uint64_t detail)
+{
+    return a.outcome == outcome && a.place == place && a.offset == offset && a.detail == detail;
+}
+
+static int counted(struct buttresk_walk_answer a, uint64_t sections, uint64_t submessages, uint64_t messages)
+{
+    return a.sections == sections && a.submessages == submessages && a.messages == messages;
+}
+
+/* Room for 8 rows and 1 line, with a remainder; 99 stands where nothing is stored. */
+enum { ROWS = 8 * BUTTRESK_ROW + 2, LINES = BUTTRESK_LINE + 11 };
+static uint64_t rows[ROWS], lines[LINES];
+
+static struct buttresk_walk_answer walk(const uint8_t *octets, size_t size, size_t row_numbers, size_t line_numbers)
+{
+    for (int i = 0; i < ROWS; i++) {
+        rows[i] = 99;
+    }
+    for (int i = 0; i < LINES; i++) {
+        lines[i] = 99;
+    }
+    return buttresk_walk(octets, size, rows, row_numbers, lines, line_numbers);
+}
+
+static void walks(void)
+{
+    static const uint64_t a_rows[ROWS] = {0, 0, 16, 1, 16, 21, 3, 37, 14, 4, 51, 9, 5, 60, 11, 6, 71, 6, 7, 77, 5, 8, 82, 4, 99, 99};
+    static const uint64_t a_line[BUTTRESK_LINE] = {0, 0, 0, 0, 1, 0, 2, 3, 4, 5, 6, 7};
+    struct file a = sample_a();
+    struct buttresk_walk_answer r = walk(a.octets, a.size, ROWS, LINES);
+    EXPECT(a.size == 86);
+    EXPECT(counted(r, 8, 1, 1) && ended(r, BUTTRESK_DONE, 0, 0, 0));
+    EXPECT(memcmp(rows, a_rows, sizeof a_rows) == 0);
+    EXPECT(memcmp(lines, a_line, sizeof a_line) == 0);
+    EXPECT(lines[BUTTRESK_LINE] == 99 && lines[LINES - 1] == 99);
+
+    /* a remainder is no room: 7 rows and 2 numbers, 11 numbers of a line */
+    r = walk(a.octets, a.size, 23, LINES);
+    EXPECT(counted(r, 7, 0, 0) && ended(r, BUTTRESK_SECTION_TABLE_FULL, 7, 82, 0));
+    EXPECT(rows[21] == 99 && rows[22] == 99 && lines[0] == 99);
+    r = walk(a.octets, a.size, ROWS, 11);
+    EXPECT(counted(r, 7, 0, 0) && ended(r, BUTTRESK_SUBMESSAGE_TABLE_FULL, 7, 82, 0));
+    EXPECT(lines[0] == 99);
+
+    /* no octets, and no room */
+    r = walk(a.octets, 0, 0, 0);
+    EXPECT(counted(r, 0, 0, 0) && ended(r, BUTTRESK_DONE, 0, 0, 0));
+
+    /* cut */
+    r = walk(a.octets, 82, ROWS, LINES);
+    EXPECT(counted(r, 7, 0, 0) && ended(r, BUTTRESK_INPUT_OVER, 6, 77, 0));
+    r = walk(a.octets, 84, ROWS, LINES);
+    EXPECT(counted(r, 7, 0, 0) && ended(r, BUTTRESK_CUT, 7, 82, 0));
+
+    /* a section 2, and a 4 right after 1 */
+    struct file two = {.size = 0};
+    add_start(&two, 92);
+    add_section(&two, 1, 16);
+    add_section(&two, 2, 1);
+    add(&two, a.octets + 37, 49);
+    r = walk(two.octets, two.size, ROWS, LINES);
+    EXPECT(counted(r, 8, 0, 0) && ended(r, BUTTRESK_SECTION_TABLE_FULL, 8, 88, 0));
+    uint64_t more[9 * BUTTRESK_ROW];
+    static const uint64_t two_line[BUTTRESK_LINE] = {0, 0, 1, 0, 1, 2, 3, 4, 5, 6, 7, 8};
+    r = buttresk_walk(two.octets, two.size, more, 9 * BUTTRESK_ROW, lines, LINES);
+    EXPECT(counted(r, 9, 1, 1) && ended(r, BUTTRESK_DONE, 0, 0, 0));
+    EXPECT(memcmp(lines, two_line, sizeof two_line) == 0);
+    struct file four = {.size = 0};
+    add_start(&four, 46);
+    add_section(&four, 1, 16);
+    add_section(&four, 4, 4);
+    r = walk(four.octets, four.size, ROWS, LINES);
+    EXPECT(counted(r, 2, 0, 0) && ended(r, BUTTRESK_NO_GRID, 2, 37, 4));
+}
+
+static void copies(void)
+{
+    struct file a = sample_a();
+    uint8_t dest[88], untouched[88];
+    memset(untouched, 77, sizeof untouched);
+    memset(dest, 77, sizeof dest);
+    struct buttresk_store_answer r = buttresk_publish(a.octets, a.size, dest, 85);
+    EXPECT(r.outcome == BUTTRESK_NO_ROOM && r.written == 0 && memcmp(dest, untouched, sizeof dest) == 0);
+    r = buttresk_publish(a.octets, 82, dest, sizeof dest);
+    EXPECT(r.outcome == BUTTRESK_INPUT_OVER && r.place == 6 && r.offset == 77 && r.detail == 0 && r.written == 0);
+    EXPECT(memcmp(dest, untouched, sizeof dest) == 0);
+
+    /* in A no octet is a value but what is put before and behind it */
+    r = buttresk_publish(a.octets, a.size, dest, sizeof dest);
+    EXPECT(r.outcome == BUTTRESK_DONE && r.place == 0 && r.offset == 0 && r.detail == 0 && r.written == 86);
+    EXPECT(memcmp(dest, a.octets, 86) == 0 && dest[86] == 77 && dest[87] == 77);
+
+    /* a section 5 of one octet more, and one octet before the message */
+    struct file b = {.size = 0};
+    add(&b, "x", 1);
+    add_start(&b, 87);
+    add(&b, a.octets + 16, 44);
+    add_section(&b, 5, 7);
+    add(&b, a.octets + 71, 15);
+    r = buttresk_publish(b.octets, b.size, dest, sizeof dest);
+    EXPECT(b.size == 88 && r.outcome == BUTTRESK_DONE && r.written == 88);
+    EXPECT(dest[0] == 0 && dest[1] == 'G' && dest[71] == 6 && b.octets[72] == 7 && dest[72] == 0 && dest[73] == 0 && dest[76] == 6);
+}
+
+static void writes(void)
+{
+    struct file a = sample_a();
+    uint8_t dest[87];
+    uint64_t plan[6 * BUTTRESK_PART + 1];
+    struct buttresk_walk_answer r = walk(a.octets, a.size, ROWS, LINES);
+    for (uint64_t i = 1; i + 1 < r.sections; i++) {
+        plan[(i - 1) * 3] = rows[i * 3];
+        plan[(i - 1) * 3 + 1] = rows[i * 3 + 1] + 5;
+        plan[(i - 1) * 3 + 2] = rows[i * 3 + 2] - 5;
+    }
+    memset(dest, 77, sizeof dest);
+    struct buttresk_store_answer w = buttresk_write(10, 255, 255, plan, 19, a.octets, a.size, dest, sizeof dest);
+    EXPECT(w.outcome == BUTTRESK_DONE && w.place == 0 && w.offset == 0 && w.detail == 0 && w.written == 86);
+    EXPECT(memcmp(dest, a.octets, 86) == 0 && dest[86] == 77);
+
+    memset(dest, 77, sizeof dest);
+    w = buttresk_write(10, 255, 255, plan, 18, a.octets, a.size, dest, 85);
+    EXPECT(w.outcome == BUTTRESK_NO_ROOM && w.written == 0 && dest[0] == 77);
+    w = buttresk_write(10, 255, 255, plan, 15, a.octets, a.size, dest, sizeof dest);
+    EXPECT(w.outcome == BUTTRESK_NOT_ONE_MESSAGE && w.detail == 5 && w.written == 0 && dest[0] == 77);
+    plan[2 * 3 + 1] = a.size;
+    w = buttresk_write(10, 255, 255, plan, 18, a.octets, a.size, dest, sizeof dest);
+    EXPECT(w.outcome == BUTTRESK_OUTSIDE_STORE && w.detail == 2 && w.place == 0 && w.offset == 0 && w.written == 0 && dest[0] == 77);
+}
+
+static void fields(void)
+{
+    struct file a = sample_a();
+    struct buttresk_indicator_fields zero = buttresk_indicator(a.octets, 16);
+    EXPECT(zero.known == 1 && zero.discipline == 10 && zero.total == 86);
+    EXPECT(buttresk_indicator(a.octets, 15).known == 0);
+
+    struct buttresk_identification_fields one = buttresk_identification(a.octets + 21, 16);
+    EXPECT(one.known == 1 && one.centre == 0x0102 && one.subcentre == 0x0304 && one.master == 5 && one.local == 6);
+    EXPECT(one.significance == 7 && one.year == 0x0809 && one.month == 10 && one.day == 11 && one.hour == 12 && one.minute == 13);
+    EXPECT(one.second == 14 && one.status == 15 && one.processed == 16);
+    EXPECT(buttresk_identification(a.octets + 21, 15).known == 0);
+
+    struct buttresk_grid_fields three = buttresk_grid_definition(a.octets + 42, 9);
+    EXPECT(three.known == 1 && three.points == 0x02030405 && three.template_number == 0x0809);
+    EXPECT(buttresk_grid_definition(a.octets + 42, 8).known == 0);
+
+    struct buttresk_representation_fields five = buttresk_representation(a.octets + 65, 6);
+    EXPECT(five.known == 1 && five.points == 0x01020304 && five.template_number == 0x0506);
+    EXPECT(buttresk_representation(a.octets + 65, 5).known == 0);
+
+    struct buttresk_bit_map_fields six = buttresk_bit_map(a.octets + 76, 1);
+    EXPECT(six.known == 1 && six.indicator == 1);
+    EXPECT(buttresk_bit_map(a.octets + 76, 0).known == 0);
+}
+
+/* Section 4: template 0 has a product field in each of its places, as the Manual lays them out. */
+static void products(void)
+{
+    const uint8_t payload[29] = {0, 3, 0, 0, 1, 2, 4, 0, 0, 0, 0, 0, 11, 0, 0, 1, 2,
+                                 103, 0x81, 0x80, 0, 0, 5, 255, 2, 0x7f, 0xff, 0xff, 0xff};
+    struct buttresk_product_fields p = buttresk_product_definition(payload, sizeof payload);
+    EXPECT(p.known == 1 && p.coordinates == 3 && p.template_number == 0);
+    EXPECT(p.category.known == 1 && p.category.value == 1 && p.number.known == 1 && p.number.value == 2);
+    EXPECT(p.process.known == 1 && p.process.value == 4);
+    EXPECT(p.time.known == 1 && p.time.unit == 11 && p.time.time == 0x0102);
+    EXPECT(p.surfaces.known == 1 && p.surfaces.first.type == 103 && p.surfaces.first.factor == -1 && p.surfaces.first.value == -5);
+    EXPECT(p.surfaces.second.type == 255 && p.surfaces.second.factor == 2 && p.surfaces.second.value == 2147483647);
+
+    /* an octet less: both surfaces or none; five octets: a category and no number */
+    p = buttresk_product_definition(payload, 28);
+    EXPECT(p.time.known == 1 && p.surfaces.known == 0);
+    p = buttresk_product_definition(payload, 5);
+    EXPECT(p.known == 1 && p.category.known == 1 && p.number.known == 0 && p.process.known == 0 && p.time.known == 0);
+    p = buttresk_product_definition(payload, 3);
+    EXPECT(p.known == 0 && p.category.known == 0 && p.number.known == 0 && p.process.known == 0 && p.time.known == 0);
+    EXPECT(p.surfaces.known == 0);
+
+    /* an unsupported template */
+    const uint8_t other[6] = {0, 3, 0, 16, 1, 2};
+    p = buttresk_product_definition(other, sizeof other);
+    EXPECT(p.known == 1 && p.template_number == 16 && p.category.known == 0 && p.number.known == 0);
+}
+
+int main(void)
+{
+    walks();
+    copies();
+    writes();
+    fields();
+    products();
+    printf("cface: %d checks, %d failed\n", checks, failed);
+    return failed != 0;
+}
