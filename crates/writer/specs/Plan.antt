@@ -14,6 +14,7 @@ use Rattle.order.specs.declared.Order.{Order}
 use Rattle.order.specs.declared.Order.the-variants.{AfterIndicator}
 use Rattle.order.specs.declared.Judged.{Judged}
 use Rattle.order.specs.declared.Judged.the-variants.{Fits, Closes, Misplaced, NoGrid}
+use Rattle.order.specs.declared.Place.{Place}
 use Rattle.lines.specs.Lines.{place}
 use Rattle.machine.specs.Machine.{mostOctets}
 use Rattle.writer.specs.declared.Check.{Check}
@@ -37,16 +38,16 @@ partsOf (number ∷ offset ∷ octets ∷ more) = record { number = number; offs
 -- a number that may come next goes on; any other, 0 and 8 too, is at fault
 abbrev pub orAt : Judged → ℕ → (Order → Check) → Check
 orAt (Fits next) at later = later next
-orAt Closes at later = At at
-orAt Misplaced at later = At at
-orAt NoGrid at later = At at
+orAt Closes at later = At (place at)
+orAt Misplaced at later = At (place at)
+orAt NoGrid at later = At (place at)
 
 -- at the plan's end an 8 has to close the message
 abbrev pub closedAt : Judged → ℕ → Check
 closedAt Closes at = Passed
-closedAt (Fits next) at = At at
-closedAt Misplaced at = At at
-closedAt NoGrid at = At at
+closedAt (Fits next) at = At (place at)
+closedAt Misplaced at = At (place at)
+closedAt NoGrid at = At (place at)
 
 -- 16: the first place whose number can't come next, or the plan's length if only the 8 misfits
 unfoldable pub misfitFrom : Order → ℕ → List Part → Check
@@ -60,7 +61,7 @@ misfit parts = misfitFrom AfterIndicator 0 parts
 -- the first place, counted on from one, of a part that a test finds at fault
 unfoldable pub firstAt : (Part → Bool) → ℕ → List Part → Check
 firstAt faulty at [] = Passed
-firstAt faulty at (part ∷ more) = let later = firstAt faulty (at + 1) more in pick (faulty part) (At at) later
+firstAt faulty at (part ∷ more) = let later = firstAt faulty (at + 1) more in pick (faulty part) (At (place at)) later
 
 -- 17: offset plus length over the store's length
 unfoldable pub isOutside : ℕ → Part → Bool
@@ -85,7 +86,7 @@ abbrev pub totalOf : List Part → ℕ
 totalOf parts = 16 + (sizeOf parts + 4)
 
 -- a check that names a place refuses; after one that passes comes the next
-abbrev pub unless : Check → (ℕ → Written) → Written → Written
+abbrev pub unless : Check → (Place → Written) → Written → Written
 unless (At at) refused later = refused at
 unless Passed refused later = later
 
@@ -93,9 +94,9 @@ unless Passed refused later = later
 unfoldable pub judgedPlan : List Part → ℕ → ℕ → Written
 judgedPlan parts store room =
     pick (ltb 4096 (length parts)) TooManySections
-    (unless (misfit parts) (λ at. NotOneMessage (place at))
-    (unless (firstAt (isOutside store) 0 parts) (λ at. OutsideStore (place at))
-    (unless (firstAt isWrongSize 0 parts) (λ at. PayloadSize (place at))
+    (unless (misfit parts) NotOneMessage
+    (unless (firstAt (isOutside store) 0 parts) OutsideStore
+    (unless (firstAt isWrongSize 0 parts) PayloadSize
     (pick (ltb room (totalOf parts)) NoRoom
     (pick (ltb mostOctets (totalOf parts)) NoRoom
     (Whole (totalOf parts)))))))

@@ -37,7 +37,7 @@ fn first_misfit(plan: &[u64]) -> Check
     while ROW <= plan.len() - i {
         let judged = judge(order, plan[i]);
         let Judged::Fits(next) = judged else {
-            return Check::At(place);
+            return Check::At(Place(place));
         };
         order = next;
         place += 1;
@@ -45,7 +45,7 @@ fn first_misfit(plan: &[u64]) -> Check
     }
     let last = judge(order, EndSection::NUMBER);
     let Judged::Closes = last else {
-        return Check::At(place);
+        return Check::At(Place(place));
     };
     Check::Passed
 }
@@ -68,7 +68,7 @@ fn first_outside(plan: &[u64], store: u64) -> Check
     let mut i: usize = 0;
     while ROW <= plan.len() - i {
         if is_outside(store, plan[i + 1], plan[i + 2]) {
-            return Check::At(place);
+            return Check::At(Place(place));
         }
         place += 1;
         i += ROW;
@@ -98,7 +98,7 @@ fn first_wrong_size(plan: &[u64]) -> Check
     let mut i: usize = 0;
     while ROW <= plan.len() - i {
         if is_wrong_size(plan[i], plan[i + 2]) {
-            return Check::At(place);
+            return Check::At(Place(place));
         }
         place += 1;
         i += ROW;
@@ -129,15 +129,15 @@ pub(crate) fn judge_plan(plan: &[u64], store: u64, room: u64) -> Written
     }
     let order = first_misfit(plan);
     if let Check::At(place) = order {
-        return Written::NotOneMessage(Place(place));
+        return Written::NotOneMessage(place);
     }
     let parts = first_outside(plan, store);
     if let Check::At(place) = parts {
-        return Written::OutsideStore(Place(place));
+        return Written::OutsideStore(place);
     }
     let sizes = first_wrong_size(plan);
     if let Check::At(place) = sizes {
-        return Written::PayloadSize(Place(place));
+        return Written::PayloadSize(place);
     }
     let total = total_of(plan);
     if room < total {

@@ -1,0 +1,4 @@
+// `replay` over the stored list of the crate's own answers (tests/oracle).
+fn main() {
+    replaying::run();
+}
