@@ -12,7 +12,7 @@ use Rattle.promises.specs.Promises.{Demand1, Demand2, Demand3}
 use Rattle.promises.proofs.Leaves.{walk-stores, walk-leaves, copy-leaves, write-leaves}
 use Rattle.promises.proofs.Pulling.{pull-passes}
 use Rattle.promises.proofs.Copying.{copied, copy-refuses, copy-whole}
-use Rattle.promises.proofs.Writing.{write-refuses, write-takes, reads-back}
+use Rattle.promises.proofs.Writing.{write-refuses, write-takes, plan-order, reads-back}
 use Rattle.promises.proofs.Blind.{one-end, clean, one, public, no-value, value-goes, outside-goes}
 
 -- what was stored stands, and all else lent is untouched
@@ -43,6 +43,7 @@ demand-2 =
       copy-whole = copy-whole;
       write-refuses = write-refuses;
       write-takes = write-takes;
+      plan-order = plan-order;
       reads-back = reads-back;
     }
 

@@ -3,9 +3,10 @@
 use Prim.Native.Nat.{ℕ, _*_, _≤_, _<_}
 use mathlib.Core.Bool.{true}
 use mathlib.Core.Path.{_≡_}
-use mathlib.Core.List.{List}
+use mathlib.Core.List.{List, [], _∷_, _++_}
 use lib.ListN.{length, getD, take, drop}
 use Rattle.framing.specs.declared.read.Section.{Section}
+use Rattle.order.specs.Order.{orderOf}
 use Rattle.lines.specs.declared.Line.{Line}
 use Rattle.numbers.specs.Numbers.{endOf, stored, unplaced}
 use Rattle.numbers.specs.declared.End.{End}
@@ -17,7 +18,7 @@ use Rattle.pull.specs.Pull.{pulled}
 use Rattle.publish.specs.Values.{licensed, isValue, inMessage}
 use Rattle.publish.specs.Copy.{copyOf}
 use Rattle.publish.specs.End.{copyEnd}
-use Rattle.writer.specs.Plan.{partsOf}
+use Rattle.writer.specs.Plan.{Part, partsOf}
 use Rattle.writer.specs.Write.{writeOf}
 use Rattle.writer.specs.End.{writeEnd}
 use Rattle.laws.specs.Rows.{Not, Iff}
@@ -36,11 +37,12 @@ use Rattle.laws.specs.Laws.{
   CleanInAnyRoom,
 }
 use Rattle.laws.specs.Samples.{StarredHold}
-use Rattle.trips.specs.ReadBack.{ReadsBack}
+use Rattle.trips.specs.Faults.{Nowhere, OneMessage}
+use Rattle.trips.specs.ReadBack.{numbersOf, ReadsBack}
 use Rattle.blind.specs.Agree.{decoded}
 use Rattle.blind.specs.Blindness.{Blindness, LentBlindness, PublicCopies}
 use Rattle.promises.specs.ExactlyWhen.{CopyGiven, PlanGiven, PlanTaken}
-use Rattle.promises.specs.Handed.{passed, handed}
+use Rattle.promises.specs.Handed.{passed, handed, orderNumber}
 
 -- an end in document 01's numbers
 abbrev pub ended : ℕ → ℕ → ℕ → ℕ → End
@@ -117,6 +119,10 @@ pub record Demand2 : Type 0 where
   pub write-takes : (discipline reserved₁ reserved₂ : ℕ) (plan store dest : List ℕ)
       → Iff (writeEnd (writeOf discipline reserved₁ reserved₂ plan store dest .answer) .end ≡ ended 0 0 0 0)
       (PlanTaken (partsOf plan) (length store) (length dest))
+  -- a plan is one message where the order finds its numbers clean, with 0 before and 8 after, and no 8 among them
+  pub plan-order : (parts : List Part)
+      → Iff (OneMessage parts)
+      ((orderNumber (orderOf (0 ∷ (numbersOf parts ++ (8 ∷ [])))) ≡ 0) × Nowhere (λ part. part .number ≡ 8) parts)
   -- what is written reads back: rows, payloads, discipline, and a clean walk with any tables that hold the lines
   pub reads-back : (discipline reserved₁ reserved₂ : ℕ) (plan store dest : List ℕ)
       → let wrote = writeOf discipline reserved₁ reserved₂ plan store dest in
