@@ -16,7 +16,7 @@ use Rattle.lines.specs.Lines.{place, opened, lineOf}
 use Rattle.lines.specs.declared.Line.{Line}
 use Rattle.state.specs.State.{unstarted}
 use Rattle.state.specs.declared.walk.Walk.{Walk}
-use Rattle.machine.specs.Machine.{startOf}
+use Rattle.machine.specs.Machine.{startOf, advanceOf}
 use Rattle.meaning.specs.Walk.{Told, walked}
 use Rattle.meaning.proofs.Judged.{dueLines, Counted, Lent, Tells}
 use Rattle.walk.specs.Tables.{roomOf, rowsOf, stored, answerOf, walkOf}
@@ -29,6 +29,7 @@ use Rattle.walk.proofs.Turns.{after, stepped, turns-next, turns-ended, Enough, 
 use Rattle.walk.proofs.Runs.{Ran, runs}
 use Rattle.buttresk.specs.Tables.{lineNumbers, linesOf, sevenOf, walkNumbers}
 use Rattle.buttresk.specs.Put.{linesAfter}
+use Rattle.buttresk.specs.Stretch.{Turned, turnOf, Turns, Hastened}
 use Rattle.buttresk.proofs.Steps.{Steps, steps}
 
 -- each line is twelve numbers
@@ -195,7 +196,7 @@ module _ (file rows₀ lines₀ : List ℕ) where
       tells = subst (Steps (roomOf (length rows) room) (w .lines)) (sym step) (steps _ lent w going (kept .counted going) file)
 
       -- a line that is due has room
-      pub in-room : v .due ≡ true → v .slot < length lines / 12
+      in-room : v .due ≡ true → v .slot < length lines / 12
       in-room due = rw (same-lines, tells .lined .stored due) (tells .lined .within due)
 
       moves : v .going ≡ true → (w .cursor .at .0 < length file) × (w .cursor .at .0 < v .cursor .at .0)
@@ -205,12 +206,12 @@ module _ (file rows₀ lines₀ : List ℕ) where
           (goes-on file (roomOf (length rows) room) w)
 
       -- the walk has ended, or it comes nearer to the file's end
-      pub falls : pick (v .going) (suc (length file - v .cursor .at .0)) 0 < pick (w .going) (suc (length file - w .cursor .at .0)) 0
+      falls : pick (v .going) (suc (length file - v .cursor .at .0)) 0 < pick (w .going) (suc (length file - w .cursor .at .0)) 0
       falls =
           by-test (λ (n : ℕ). n < pick (w .going) (suc (length file - w .cursor .at .0)) 0) (v .going)
           (λ e. let moved = moves e in rw going (omega arith)) (λ e. rw going (omega arith))
 
-      pub turn : {rows′ lines′ : List ℕ} → length rows′ ≡ length rows → rows′ ≡ rowsAfter (v .passed) (v .last) rows
+      turn : {rows′ lines′ : List ℕ} → length rows′ ≡ length rows → rows′ ≡ rowsAfter (v .passed) (v .last) rows
           → lines′ ≡ linesAfter (v .due) (v .slot) (v .line) lines → Kept v rows′ lines′
       turn {rows′} {lines′} same rows-after lines-after = by-left (kept .left) (kept .ends) (kept .enough)
         where
@@ -259,3 +260,51 @@ module _ (file rows₀ lines₀ : List ℕ) where
                 enough = subst (Enough file left) (sym step) (one-less file (length rows) room left w enough going);
                 counted = tells .counted;
               }
+
+  -- some turns more, of a walk that goes on: it goes on still, and has come no nearer to the file's start
+  record After (from to : Turned) : Type 0 where
+    kept : Kept (to .walk) (to .rows) (to .lines)
+    going : to .walk .going ≡ true
+    further : from .walk .cursor .at .0 ≤ to .walk .cursor .at .0
+
+  after-turns : (turns : ℕ) (from to : Turned) → length rows₀ < 2 ^ 64 → length lines₀ < 2 ^ 64 → Kept (from .walk) (from .rows) (from .lines)
+      → from .walk .going ≡ true → Turns file turns from to → After from to
+  unfolding Turns turnOf
+  after-turns zero from to rows-fit lines-fit kept going same =
+      subst (After from) same (record { kept = kept; going = going; further = omega arith })
+  after-turns (suc turns) from to rows-fit lines-fit kept going (goes, same, made) =
+      let next = turnOf file from in
+      let step : next .walk ≡ stepOf file (length (from .rows)) room (from .walk) =
+      ap (λ (n : ℕ). stepOf file (length (from .rows)) (n / 12) (from .walk)) (same-lines kept) in
+      let later = after-turns turns next to rows-fit lines-fit (turn kept rows-fit lines-fit going step same refl refl) goes made in
+      record {
+        kept = later .kept;
+        going = later .going;
+        further = omega (arith, later .further, moves kept rows-fit lines-fit going step goes .1);
+      }
+
+  -- a stretch that was hastened through, and the step to v from the state that it made ready
+  module _ {w ready v : Walk} {rows lines rows′ lines′ : List ℕ} (kept : Kept w rows lines) (rows-fit : length rows₀ < 2 ^ 64)
+      (lines-fit : length lines₀ < 2 ^ 64) (going : w .going ≡ true)
+      (h : Hastened file (record { walk = w; rows = rows; lines = lines }) ready rows′ lines′)
+      (step : v ≡ stepOf file (length rows′) room ready) where
+    stretch : After (record { walk = w; rows = rows; lines = lines }) (record { walk = h .reached; rows = rows′; lines = lines′ })
+    stretch = after-turns (h .turns) _ _ rows-fit lines-fit kept going (h .made)
+
+    -- it is the step from the state that the stretch reached
+    step′ : v ≡ stepOf file (length rows′) room (h .reached)
+    unfolding stepOf advanceOf
+    step′ = step ∙ ap (stepOf file (length rows′) room) (h .is-ready)
+
+    pub in-room-then : v .due ≡ true → v .slot < length lines′ / 12
+    in-room-then = in-room (stretch .kept) rows-fit lines-fit (stretch .going) step′
+
+    pub falls-then : pick (v .going) (suc (length file - v .cursor .at .0)) 0 < pick (w .going) (suc (length file - w .cursor .at .0)) 0
+    falls-then =
+        let nearer = stretch .further in
+        let left = rw (stretch .going) at (falls (stretch .kept) rows-fit lines-fit (stretch .going) step′) in
+        rw going (omega (arith, left, nearer))
+
+    pub turn-then : {rows″ lines″ : List ℕ} → length rows″ ≡ length rows′ → rows″ ≡ rowsAfter (v .passed) (v .last) rows′
+        → lines″ ≡ linesAfter (v .due) (v .slot) (v .line) lines′ → Kept v rows″ lines″
+    turn-then = turn (stretch .kept) rows-fit lines-fit (stretch .going) step′

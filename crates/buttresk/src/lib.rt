@@ -4,6 +4,7 @@
 mod fields;
 mod product;
 mod storing;
+mod stretch;
 mod walking;
 
 pub use fields::BitMapFields;

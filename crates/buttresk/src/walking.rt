@@ -6,6 +6,7 @@ ghost use lib.ListN.{length};
 ghost use Rattle.walk.specs.Turns.{concludedOf};
 ghost use Rattle.buttresk.specs.Tables.{hasLocal, localPlace, lineNumbers, sevenOf, walkNumbers};
 ghost use Rattle.buttresk.specs.Put.{putAt, linesAfter};
+use crate::stretch::hasten;
 use lines::Line;
 use lines::LocalUsePlace;
 use machine::start;
@@ -14,7 +15,7 @@ use state::Walk;
 use walk::step;
 
 // Numbers of a line: message, submessage, 1 or 0 for whether there is a section 2, nine places.
-const LINE: usize = 12;
+pub(crate) const LINE: usize = 12;
 
 // How many lines stand in each table, how many messages were closed, and how the walk ended.
 #[repr(C)]
@@ -90,7 +91,7 @@ fn put_numbers(table: &mut [u64], at: usize, numbers: [u64; LINE])
 }
 
 // Stores a line, if one is due.
-fn put_line(lines: &mut [u64], due: bool, slot: usize, line: Line)
+pub(crate) fn put_line(lines: &mut [u64], due: bool, slot: usize, line: Line)
     requires { ⌜ (due ≡ true → slot < length (now lines) / 12) ⌝ }
     ensures { λ _. ⌜ now (lines .exit) ≡ linesAfter due slot line (now (lines .entry)) ⌝ }
 {
@@ -131,7 +132,8 @@ pub extern "C" fn buttresk_walk(file: &[u8], rows: &mut [u64], lines: &mut [u64]
     let room = lines.len() / LINE;
     let mut w = start(file.len() as u64);
     while w.going {
-        w = step(file, rows, room, w);
+        let ready = hasten(file, rows, lines, w);
+        w = step(file, rows, room, ready);
         put_line(lines, w.due, w.slot, w.line);
     }
     answer_of(w)

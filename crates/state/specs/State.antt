@@ -10,6 +10,7 @@ use Rattle.order.specs.declared.Order.the-variants.{BetweenMessages, Submessage
 use Rattle.framing.specs.declared.read.Offset.{Offset}
 use Rattle.framing.specs.declared.read.Cursor.{Cursor}
 use Rattle.lines.specs.Lines.{place, opened, inForce, withSubmessage, lineOf}
+use Rattle.lines.specs.declared.Line.{Line}
 use Rattle.state.specs.declared.refusal.Refusal.{Refusal}
 use Rattle.state.specs.declared.refusal.Outcome.the-variants.{Clean, Refused}
 use Rattle.state.specs.declared.walk.Listed.{Listed}
@@ -19,7 +20,11 @@ use Rattle.state.specs.declared.walk.Walk.{Walk}
 unfoldable pub oneMore : ℕ → ℕ
 oneMore n = pick (ltb n 18446744073709551615) (n + 1) n
 
--- before the first section; `last` and `line` say nothing until a section is passed and a line due
+-- a line where none is due: it says nothing
+abbrev pub noLine : Line
+noLine = lineOf (opened 0) (place 0)
+
+-- before the first section; `last` says nothing until a section is passed
 abbrev pub unstarted : Walk
 unstarted =
     record {
@@ -31,12 +36,12 @@ unstarted =
       lines = 0;
       due = false;
       slot = 0;
-      line = lineOf (opened 0) (place 0);
+      line = noLine;
       going = true;
       ending = record { outcome = Clean };
     }
 
--- a step begins: nothing is passed and no line due yet
+-- a step begins: nothing is passed and no line due yet, and the line that was due is forgotten
 abbrev pub afresh : Walk → Walk
 afresh w =
     record {
@@ -47,8 +52,8 @@ afresh w =
       standing = w .standing;
       lines = w .lines;
       due = false;
-      slot = w .slot;
-      line = w .line;
+      slot = 0;
+      line = noLine;
       going = w .going;
       ending = w .ending;
     }

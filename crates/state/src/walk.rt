@@ -1,6 +1,6 @@
 // The state, and what a step may do to it.
 ghost use mathlib.Core.Path.{_≡_};
-ghost use Rattle.state.specs.State.{oneMore, unstarted, afresh, refuse, finish, complete, pass, close};
+ghost use Rattle.state.specs.State.{oneMore, noLine, unstarted, afresh, refuse, finish, complete, pass, close};
 use crate::refusal::Outcome;
 use crate::refusal::Refusal;
 use framing::Cursor;
@@ -87,7 +87,7 @@ pub fn unstarted() -> Walk
         lines: 0,
         due: false,
         slot: 0,
-        line: line_of(opened(0), Place(0)),
+        line: no_line(),
         going: true,
         ending: Ending {
             outcome: Outcome::Clean,
@@ -95,12 +95,21 @@ pub fn unstarted() -> Walk
     }
 }
 
-// A step begins.
+// A line where none is due: it says nothing.
+fn no_line() -> Line
+    ensures { λ r. ⌜ r ≡ noLine ⌝ }
+{
+    line_of(opened(0), Place(0))
+}
+
+// A step begins. What was due in the step before is forgotten.
 pub fn afresh(mut w: Walk) -> Walk
     ensures { λ r. ⌜ r ≡ afresh w ⌝ }
 {
     w.passed = false;
     w.due = false;
+    w.slot = 0;
+    w.line = no_line();
     w
 }
 

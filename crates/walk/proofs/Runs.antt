@@ -222,10 +222,10 @@ module _ (file : List ℕ) (world : World) (turns : ℕ) where
   by-read read.Over lent going counted later =
       by-test-2 (λ (v : Walk) (o : Outcome). Reaches world (turnsOf turns file (after world v)) (ends o))
       (isBetween (world .walk .standing .order))
-      (λ e. ended file world turns _ [] _ (silent (world .walk) _) refl refl refl refl refl)
-      (λ e. ended file world turns _ [] _ (silent (world .walk) _) refl refl refl refl refl)
+      (λ e. ended file world turns _ [] _ (silent (afresh (world .walk)) _) refl refl refl refl refl)
+      (λ e. ended file world turns _ [] _ (silent (afresh (world .walk)) _) refl refl refl refl refl)
   by-read (read.Refused fault offset) lent going counted later =
-      ended file world turns _ [] _ (silent (world .walk) _) refl refl refl refl refl
+      ended file world turns _ [] _ (silent (afresh (world .walk)) _) refl refl refl refl refl
 
 -- a turn that passes a section leaves the tables' lengths
 rows-length : (passed : Bool) (last : Listed) (at : Place) (s : Section) (rows : List ℕ) → passed ≡ true

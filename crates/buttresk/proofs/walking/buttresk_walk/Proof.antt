@@ -6,7 +6,7 @@ use lib.ListN.{length}
 use borrow.Author.Needs.{needs}
 use Rattle.octets.specs.Choice.{pick}
 use Rattle.state.specs.declared.walk.Walk.{Walk}
-use Rattle.buttresk.proofs.Kept.{Kept, first, same-lines, ended, in-room, falls, turn}
+use Rattle.buttresk.proofs.Kept.{Kept, first, same-lines, ended, in-room-then, falls-then, turn-then}
 use Rattle.buttresk.proofs.walking.buttresk_walk.Statement.{statement}
 use Rattle.buttresk.proofs.walking.buttresk_walk.Tie as tie
 
@@ -16,6 +16,9 @@ Inv-loop file rows₀ lines₀ room w₀ rows lines w = Kept file rows₀ lines�
 abbrev μ-loop : tie.MeasureT-loop
 μ-loop file rows₀ lines₀ room w₀ rows lines w = pick (w .going) (suc (length file - w .cursor .at .0)) 0
 
+start-requires : tie.Need-start-requires Inv-loop μ-loop
+start-requires c κs = search needs
+
 loop-holds : tie.Need-loop-holds Inv-loop μ-loop
 loop-holds c =
     let begin = c .before .before .before .before in
@@ -24,32 +27,53 @@ loop-holds c =
     let lines = begin .args .lines .now in
     subst (λ (w : Walk). Kept file rows lines w rows lines) (sym (c .start .ensures)) (first file rows lines)
 
+hasten-requires : tie.Need-hasten-requires Inv-loop μ-loop
+hasten-requires c κs = search needs
+
+step-requires : tie.Need-step-requires Inv-loop μ-loop
+step-requires c κs = search needs
+
 put-line-requires : tie.Need-put-line-requires Inv-loop μ-loop
 put-line-requires c κs =
     let stepped = c .before .before .before in
-    let loop = stepped .before .before .before in
-    let begin = loop .before .before .before .before .before in
-    in-room (begin .args .file .now) (begin .args .rows .now) (begin .args .lines .now) (loop .loop .inv) (omega (arith, begin .good))
-    (omega (arith, begin .good)) (stepped .before .before .loop-test .taken) (stepped .step .ensures .0)
+    let hastened = stepped .before .before .before .before .before .before in
+    let loop = hastened .before .before .before in
+    let begin = loop .before .before .before .before .before .before in
+    in-room-then (begin .args .file .now) (begin .args .rows .now) (begin .args .lines .now) (loop .before .loop .inv) (omega (arith, begin .good))
+    (omega (arith, begin .good)) (loop .loop-test .taken) (hastened .hasten .ensures) (stepped .step .ensures .0)
 
 loop-less : tie.Need-loop-less Inv-loop μ-loop
 loop-less c =
     let stepped = c .before .before .before .before .before .before in
-    let loop = stepped .before .before .before in
-    let begin = loop .before .before .before .before .before in
-    falls (begin .args .file .now) (begin .args .rows .now) (begin .args .lines .now) (loop .loop .inv) (omega (arith, begin .good))
-    (omega (arith, begin .good)) (stepped .before .before .loop-test .taken) (stepped .step .ensures .0)
+    let hastened = stepped .before .before .before .before .before .before in
+    let loop = hastened .before .before .before in
+    let begin = loop .before .before .before .before .before .before in
+    falls-then (begin .args .file .now) (begin .args .rows .now) (begin .args .lines .now) (loop .before .loop .inv) (omega (arith, begin .good))
+    (omega (arith, begin .good)) (loop .loop-test .taken) (hastened .hasten .ensures) (stepped .step .ensures .0)
 
 loop-again : tie.Need-loop-again Inv-loop μ-loop
 loop-again c =
     let put = c .before .before in
     let lent = put .before .before .before in
     let stepped = lent .before in
-    let loop = stepped .before .before .before in
-    let begin = loop .before .before .before .before .before in
-    turn (begin .args .file .now) (begin .args .rows .now) (begin .args .lines .now) (loop .loop .inv) (omega (arith, begin .good))
-    (omega (arith, begin .good)) (stepped .before .before .loop-test .taken) (stepped .step .ensures .0) (lent .rows .given)
+    let hastened = stepped .before .before .before .before .before .before in
+    let loop = hastened .before .before .before in
+    let begin = loop .before .before .before .before .before .before in
+    turn-then (begin .args .file .now) (begin .args .rows .now) (begin .args .lines .now) (loop .before .loop .inv) (omega (arith, begin .good))
+    (omega (arith, begin .good)) (loop .loop-test .taken) (hastened .hasten .ensures) (stepped .step .ensures .0) (lent .rows2 .given)
     (stepped .step .ensures .1) (put .put-line .ensures)
+
+answer-of-requires : tie.Need-answer-of-requires Inv-loop μ-loop
+answer-of-requires c κs = search needs
+
+same-length : tie.Need-same-length Inv-loop μ-loop
+same-length c = c .before .before .loop .inv .same-rows
+
+same-length-2 : tie.Need-same-length-2 Inv-loop μ-loop
+same-length-2 c =
+    let loop = c .before .before in
+    let begin = loop .before .before .before .before .before in
+    same-lines (begin .args .file .now) (begin .args .rows .now) (begin .args .lines .now) (loop .loop .inv)
 
 returns : tie.Need-returns Inv-loop μ-loop
 returns c =
@@ -66,16 +90,14 @@ buttresk-walk-spec =
     (tie.spec
     Inv-loop
     μ-loop
-    (λ c κs. search needs)
+    start-requires
     loop-holds
-    (λ c κs. search needs)
+    hasten-requires
+    step-requires
     put-line-requires
     loop-less
     loop-again
-    (λ c κs. search needs)
-    (λ c. c .before .before .loop .inv .same-rows)
-    (λ c.
-    let loop = c .before .before in
-    let begin = loop .before .before .before .before .before in
-    same-lines (begin .args .file .now) (begin .args .rows .now) (begin .args .lines .now) (loop .loop .inv))
+    answer-of-requires
+    same-length
+    same-length-2
     returns)
