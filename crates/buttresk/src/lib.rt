@@ -4,7 +4,6 @@
 mod fields;
 mod product;
 mod storing;
-mod stretch;
 mod walking;
 
 pub use fields::BitMapFields;
@@ -26,5 +25,4 @@ pub use product::buttresk_product_definition;
 pub use storing::StoreAnswer;
 pub use storing::buttresk_publish;
 pub use storing::buttresk_write;
-pub use walking::WalkAnswer;
 pub use walking::buttresk_walk;

@@ -28,6 +28,7 @@ use Rattle.state.proofs as state
 use Rattle.machine.proofs as machine
 use Rattle.numbers.proofs as numbers
 use Rattle.walk.proofs as walk
+use Rattle.numbered.proofs as numbered
 use Rattle.pull.proofs as pull
 use Rattle.resume.proofs as resume
 use Rattle.desk.proofs as desk
@@ -48,7 +49,7 @@ use Rattle.publish.specs.declared.Published.{Published}
 use Rattle.writer.specs.declared.Written.{Written}
 use Rattle.state.specs.declared.walk.Walk.{Walk}
 use Rattle.walk.specs.Turns.{stepOf, rowsAfter}
-use Rattle.buttresk.specs.declared.walking.WalkAnswer.{WalkAnswer}
+use Rattle.numbered.specs.declared.walking.WalkAnswer.{WalkAnswer}
 use Rattle.buttresk.specs.declared.storing.StoreAnswer.{StoreAnswer}
 use Rattle.promises.specs.Contract.{Promised, Promise}
 use Rattle.promises.proofs.Told.{both, then-by, told}
@@ -349,6 +350,14 @@ module _ {M : Type 1} where
 
   pub indexing-at-most : Promise indexing.at_most.ended {M = M} indexing.at_most.clauses indexing.at_most.Symbol.routine
   indexing-at-most = told _ _ _ _ _ indexing.at_most.Met.met (λ n. refl) (λ n. _) (λ n r e. id⊢ (n .memory) _)
+
+  -- numbered: the answer and both tables of numbers
+  pub numbered-walk-numbers :
+      Promised numbered.walk_numbers.ended {M = M} numbered.walk_numbers.clauses numbered.walk_numbers.Symbol.routine
+      (λ κs. WalkAnswer × (List ℕ × List ℕ)) (λ κs r e. (r, (now (e .1 .0), now (e .1 .1 .0))))
+  numbered-walk-numbers =
+      told _ _ _ _ _ numbered.walk_numbers.Met.met (λ n. refl) (λ n. _)
+      (λ n r e. both (n .memory) (id⊢ (n .memory) _) (both (n .memory) (id⊢ (n .memory) _) (id⊢ (n .memory) _)))
 
   -- buttresk, the C face: of the walk the answer and both tables, of the copy and the writer the answer and the destination
   pub buttresk-walk :

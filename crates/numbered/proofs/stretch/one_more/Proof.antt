@@ -1,0 +1,12 @@
+-- `one_more` meets its contract. Assumes nothing.
+use borrow.Author.Needs.{needs}
+use borrow.Author.Tests.{lt-ltb, le-ltb}
+use Rattle.state.specs.State.{oneMore}
+use Rattle.numbered.proofs.stretch.one_more.Statement.{statement}
+use Rattle.numbered.proofs.stretch.one_more.Tie as tie
+
+pub one-more-spec : {M : Type 1} → statement M
+unfolding oneMore
+one-more-spec =
+    tie.close
+    (tie.spec (λ c. search needs) (λ c. simp (lt-ltb _ _ (c .if1 .taken))) (λ c. simp (le-ltb _ _ (c .if1 .left))))
