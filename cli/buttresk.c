@@ -1,0 +1,177 @@
+/* The command `buttresk`: docs/buttresk.1 says all of it. Here are its arguments, and what holds of all it does. */
+#include <errno.h>
+#include <fcntl.h>
+#include <signal.h>
+#include <stdbool.h>
+#include <stdio.h>
+#include <string.h>
+#include <unistd.h>
+
+#include "commands.h"
+#include "guard.h"
+
+#define VERSION "0.1.0"
+
+static const char usage[] = "usage: buttresk index FILE..\n"
+                            "       buttresk fields [--json] FILE..\n"
+                            "       buttresk copy [--force] FILE DEST\n"
+                            "       buttresk --help | --version\n";
+
+static const char help[] =
+    "\n"
+    "Reads GRIB edition 2 files by a library whose every answer is proved.\n"
+    "\n"
+    "  index   the sections' places of every submessage, and how the file ends\n"
+    "  fields  a line for every submessage, with its decoded fields; --json: an object\n"
+    "  copy    the public copy: the file, with every octet of its values set to zero.\n"
+    "          DEST appears whole or not at all; --force replaces an existing one\n"
+    "\n"
+    "Names that begin with - stand behind --. Exit status: 0 clean; 1 a file is refused,\n"
+    "which standard error tells; 2 wrong usage, or an error of the system.\n";
+
+struct request {
+    bool help, version, json, force;
+    const char *verb; /* null if there is none */
+    char **names;
+    int count;
+};
+
+static enum status wrong_usage(const char *reason, const char *word)
+{
+    fprintf(stderr, "buttresk: %s", reason);
+    put_name(stderr, word);
+    fprintf(stderr, "\n%s", usage);
+    return FAILED;
+}
+
+bool output_taken(void)
+{
+    errno = 0;
+    if (fflush(stdout) == 0 && !ferror(stdout)) {
+        return true;
+    }
+    if (errno != 0) {
+        say_system("standard output");
+    } else {
+        say_failed("standard output", "could not be written");
+    }
+    return false;
+}
+
+/* The flag that a word sets; null if it is none. */
+static bool *flag_of(struct request *r, const char *word)
+{
+    if (strcmp(word, "--help") == 0) {
+        return &r->help;
+    }
+    if (strcmp(word, "--version") == 0) {
+        return &r->version;
+    }
+    if (strcmp(word, "--json") == 0) {
+        return &r->json;
+    }
+    return strcmp(word, "--force") == 0 ? &r->force : NULL;
+}
+
+static void take_word(struct request *r, char *word)
+{
+    if (r->verb == NULL) {
+        r->verb = word;
+    } else {
+        r->names[r->count++] = word;
+    }
+}
+
+/* Names are gathered at the front of the arguments themselves: there are never more of them than words already read. */
+static enum status read_arguments(struct request *r, int argc, char **argv)
+{
+    bool options = true;
+    *r = (struct request){.names = argv + 1};
+    for (int i = 1; i < argc; i++) {
+        bool *flag = options ? flag_of(r, argv[i]) : NULL;
+        if (flag != NULL) {
+            *flag = true;
+        } else if (options && strcmp(argv[i], "--") == 0) {
+            options = false;
+        } else if (options && argv[i][0] == '-' && argv[i][1] != '\0') {
+            return wrong_usage("unknown option ", argv[i]);
+        } else {
+            take_word(r, argv[i]);
+        }
+    }
+    return CLEAN;
+}
+
+static enum status highest(enum status a, enum status b)
+{
+    return a > b ? a : b;
+}
+
+/* One file after another, whatever becomes of each, until nobody takes the output. */
+static enum status for_each_file(const struct request *r, bool fields)
+{
+    enum status status = CLEAN;
+    bool head = r->count > 1;
+    for (int i = 0; i < r->count && !ferror(stdout); i++) {
+        const char *name = r->names[i];
+        status = highest(status, fields ? fields_of_file(name, head, r->json) : index_file(name, head));
+    }
+    return status;
+}
+
+static enum status dispatch(const struct request *r)
+{
+    bool index = strcmp(r->verb, "index") == 0, fields = strcmp(r->verb, "fields") == 0;
+    bool copy = strcmp(r->verb, "copy") == 0;
+    if (!index && !fields && !copy) {
+        return wrong_usage("unknown command ", r->verb);
+    }
+    if ((r->json && !fields) || (r->force && !copy)) {
+        return wrong_usage(r->json && !fields ? "--json is for fields, not for " : "--force is for copy, not for ", r->verb);
+    }
+    if (copy) {
+        return r->count == 2 ? copy_file(r->names[0], r->names[1], r->force)
+                             : wrong_usage("a FILE and a DEST are wanted by ", r->verb);
+    }
+    return r->count > 0 ? for_each_file(r, fields) : wrong_usage("a FILE is wanted by ", r->verb);
+}
+
+static enum status answer(const struct request *r)
+{
+    if (r->help) {
+        printf("%s%s", usage, help);
+    } else if (r->version) {
+        puts("buttresk " VERSION);
+    } else {
+        return r->verb == NULL ? wrong_usage("no command", "") : dispatch(r);
+    }
+    return output_taken() ? CLEAN : FAILED;
+}
+
+/* A file that is opened is never to stand where standard output or error should: a message would be written into a copy. What was
+   closed is held by a descriptor that can't be used, so that its use fails as it would have. */
+static void hold_standard_descriptors(void)
+{
+    for (int fd = 0; fd <= 2; fd++) {
+        if (fcntl(fd, F_GETFD) < 0) {
+            open("/dev/null", fd == 0 ? O_WRONLY : O_RDONLY);
+        }
+    }
+}
+
+int main(int argc, char **argv)
+{
+    struct request request;
+    hold_standard_descriptors();
+    /* A line that is told is one write, whoever else writes there. */
+    setvbuf(stderr, NULL, _IOLBF, BUFSIZ);
+    /* Both are told by the call that fails, with its reason; and a child is waited for, whatever was inherited. */
+    signal(SIGPIPE, SIG_IGN);
+    signal(SIGXFSZ, SIG_IGN);
+    signal(SIGCHLD, SIG_DFL);
+    if (!guard_install()) {
+        return (int)say_system("SIGBUS and SIGSEGV");
+    }
+    enum status status = read_arguments(&request, argc, argv);
+    return (int)(status == CLEAN ? answer(&request) : status);
+}

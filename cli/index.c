@@ -1,0 +1,60 @@
+/* `index`: what gribwalk prints (document 01, "Sample files"), of files of any size. */
+#include <inttypes.h>
+#include <stdio.h>
+
+#include "commands.h"
+#include "source.h"
+#include "tables.h"
+
+static void print_line(const uint64_t *line)
+{
+    printf("%" PRIu64 ".%" PRIu64, line[MESSAGE], line[SUBMESSAGE]);
+    for (int number = 0; number <= 8; number++) {
+        if (number == 2 && line[HAS_LOCAL] == 0) {
+            fputs(" -", stdout);
+        } else {
+            printf(" %" PRIu64, line[PLACES + number]);
+        }
+    }
+    putchar('\n');
+}
+
+static void print_index(const struct tables *t)
+{
+    const struct buttresk_walk_answer *a = &t->answer;
+    printf("sections %" PRIu64 " submessages %" PRIu64 " messages %" PRIu64 "\n", a->sections, a->submessages, a->messages);
+    /* an output that is closed takes nothing more */
+    for (uint64_t i = 0; i < a->submessages && !ferror(stdout); i++) {
+        print_line(tables_line(t, i));
+    }
+    printf("end %" PRIu64 " %" PRIu64 " %" PRIu64 " %" PRIu64 "\n", a->outcome, a->place, a->offset, a->detail);
+}
+
+static enum status print_walked(const struct source *source, const struct tables *tables, bool head)
+{
+    const struct buttresk_walk_answer *a = &tables->answer;
+    if (head) {
+        fputs("file ", stdout);
+        put_name(stdout, source->name);
+        putchar('\n');
+    }
+    print_index(tables);
+    if (!output_taken()) {
+        return FAILED;
+    }
+    return a->outcome == BUTTRESK_DONE ? CLEAN : say_refused(source->name, a->outcome, a->place, a->offset, a->detail);
+}
+
+enum status index_file(const char *name, bool head)
+{
+    struct source source;
+    struct tables tables;
+    if (!source_open(&source, name)) {
+        return FAILED;
+    }
+    bool walked = tables_walk(&tables, &source);
+    enum status status = walked ? print_walked(&source, &tables, head) : FAILED;
+    tables_free(&tables);
+    source_close(&source);
+    return status;
+}

@@ -1,0 +1,21 @@
+/* What the command tells on standard error, and the statuses that it ends with. */
+#ifndef SAY_H
+#define SAY_H
+
+#include <stdint.h>
+#include <stdio.h>
+
+/* Of several files the highest counts. */
+enum status { CLEAN = 0, REFUSED = 1, FAILED = 2 };
+
+/* A name on one line, whatever it holds: a backslash and control octets are escaped. */
+void put_name(FILE *to, const char *name);
+
+/* The two answer FAILED, and REFUSED, so that a caller can end in what it says. */
+enum status say_failed(const char *name, const char *reason);
+enum status say_refused(const char *name, uint64_t outcome, uint64_t place, uint64_t offset, uint64_t detail);
+
+/* The reason is the system's, from errno. */
+enum status say_system(const char *name);
+
+#endif

@@ -1,0 +1,262 @@
+"""`index` and `fields`: what they print, against answers written by hand, by `reference.py` and `replay_lists`, and by eccodes."""
+
+import importlib.machinery
+import importlib.util
+import json
+import shutil
+import subprocess
+from pathlib import Path
+
+import copy_files
+import reference
+import walk_files
+from command_run import ECCODES_SAMPLES, ROOT, SAMPLES, check, check_ended, check_equal, folder, run, skip, write
+from walk_files import END, message, section
+
+
+def loaded_from(path):
+    """A script as a module, whatever its name."""
+    loader = importlib.machinery.SourceFileLoader(path.stem, str(path))
+    module = importlib.util.module_from_spec(importlib.util.spec_from_loader(path.stem, loader))
+    loader.exec_module(module)
+    return module
+
+
+# The reader of fields by document 01.
+replay_lists = loaded_from(ROOT / "tests" / "replay_lists")
+
+# --- Written by hand -----------------------------------------------------------------------------
+
+COLUMNS = ("submessage offset length discipline centre subcentre reference product_template category number process time_unit time "
+           "first_type first_factor first_value second_type second_factor second_value grid_template points representation_template "
+           "bitmap").split()
+HEAD = "\t".join(COLUMNS)
+
+SEA_INDEX = """\
+sections 29 submessages 4 messages 3
+0.0 0 1 - 2 3 4 5 6 0
+0.1 0 1 - 2 7 8 9 10 11
+1.0 12 13 14 15 16 17 18 19 20
+2.0 21 22 - 23 24 25 26 27 28
+end 0 0 0 0
+"""
+SEA_FIELDS = [
+    "0.0 0 269 0 65535 0 2026-03-14T06:00:00 0 2 2 2 1 6 103 0 10 255 -127 -2147483647 0 12 0 255",
+    "0.1 0 269 0 65535 0 2026-03-14T06:00:00 0 2 3 2 1 6 103 0 10 255 -127 -2147483647 0 12 0 255",
+    "1.0 269 204 10 65535 0 2026-03-14T06:00:00 0 0 3 2 1 12 1 0 0 255 -127 -2147483647 0 12 0 0",
+    "2.0 473 191 0 65535 0 2026-03-15T00:00:00 0 3 1 2 1 0 101 0 0 255 -127 -2147483647 0 12 0 255",
+]
+LEAST_INDEX = "sections 8 submessages 1 messages 1\n0.0 0 1 - 2 3 4 5 6 7\nend 0 0 0 0\n"
+LEAST_FIELDS = ["0.0 0 86 0 65535 0 2026-03-14T06:00:00 65535" + 11 * " none" + " 65535 0 65535 255"]
+CUT_INDEX = """\
+sections 16 submessages 2 messages 1
+0.0 0 1 - 2 3 4 5 6 0
+0.1 0 1 - 2 7 8 9 10 11
+end 2 16 390 0
+"""
+CUT_REFUSAL = (b": refused by 2 (cut): 1 to 4 octets are left for a header, 1 to 3 for a section 8, or the payload of a section 1 to 6 "
+               b"is cut; place 16, offset 390, detail 0\n")
+BY_HAND = [("sea", SEA_INDEX, SEA_FIELDS, 0), ("least", LEAST_INDEX, LEAST_FIELDS, 0), ("cut", CUT_INDEX, SEA_FIELDS[:2], 1)]
+
+
+def table(lines):
+    return "".join(line + "\n" for line in [HEAD, *(line.replace(" ", "\t") for line in lines)])
+
+
+def samples_by_hand():
+    for name, index, lines, status in BY_HAND:
+        path = SAMPLES / f"{name}.grib2"
+        refusal = CUT_REFUSAL if status else b""
+        check_ended(f"index of the sample {name}", run("index", path), status, refusal, index.encode())
+        check_ended(f"fields of the sample {name}", run("fields", path), status, refusal, table(lines).encode())
+
+
+def samples_are_as_made():
+    done = subprocess.run([SAMPLES / "make.py", "--check"], capture_output=True, text=True)
+    check("samples/make.py makes the samples octet by octet", done.returncode == 0, done.stdout + done.stderr)
+
+
+def several_samples():
+    paths = [SAMPLES / f"{name}.grib2" for name, *_ in BY_HAND]
+    index = "".join(f"file {path}\n{index}" for path, (_, index, _, _) in zip(paths, BY_HAND))
+    lines = "".join(f"file {path}\n{table(lines)}" for path, (_, _, lines, _) in zip(paths, BY_HAND))
+    check_ended("index of several files: each behind its name", run("index", *paths), 1, CUT_REFUSAL, index.encode())
+    check_ended("fields of several files: each behind its name", run("fields", *paths), 1, CUT_REFUSAL, lines.encode())
+
+
+# --- By the reference reader ---------------------------------------------------------------------
+
+def index_of(file):
+    return replay_lists.gribwalk_answer(reference.walk(file)) + "\n"
+
+
+def section_of(file, done, line, number):
+    """What the fields of a section are decoded from: section 0 whole, of others the payload."""
+    row = done.rows[line.places[number]]
+    return file[row.offset + (0 if number == 0 else 5):row.offset + row.length]
+
+
+def fields_of_line(file, done, line):
+    """A row of the table as values, None for none, in the order of COLUMNS."""
+    found = {number: replay_lists.fields_by_01(number, section_of(file, done, line, number)) for number in (0, 1, 3, 4, 5, 6)}
+    discipline, total = found[0]
+    centre, subcentre, _, _, _, *time = found[1][:11]
+    reference_time = "%04d-%02d-%02dT%02d:%02d:%02d" % tuple(time)
+    return [f"{line.message}.{line.submessage}", done.rows[line.places[0]].offset, total, discipline, centre, subcentre, reference_time,
+            *found[4][1:], found[3][1], found[3][0], found[5][1], found[6][0]]
+
+
+def fields_of(file):
+    done = reference.walk(file)
+    return [fields_of_line(file, done, line) for line in done.lines]
+
+
+def as_table(rows):
+    return table(" ".join("none" if value is None else str(value) for value in row) for row in rows)
+
+
+def as_objects(name, rows):
+    """What --json prints, as pairs: the order of keys counts."""
+    for row in rows:
+        number, own = row[0].split(".")
+        yield [("file", name), ("message", int(number)), ("submessage", int(own)), *zip(COLUMNS[1:], row[1:])]
+
+
+def product_files():
+    """A message for each kind of product template, with a whole section 4 and with one that ends in the middle of it."""
+    ends = {end for runs in (replay_lists.SUPPORTED, replay_lists.PROCESS, replay_lists.TIME, replay_lists.SURFACES)
+            for first, last, *_ in runs for end in (first - 1, first, last, last + 1)}
+    for template in sorted(ends & set(range(65536))) + [65535]:
+        for size in (60, 25, 1):
+            four = bytes(2) + template.to_bytes(2, "big") + copy_files.loaded(size, template % 7)
+            five, six = section(5, copy_files.loaded(11, 3)), section(6, copy_files.loaded(4, 9))
+            yield message(copy_files.full(1) + copy_files.full(3) + section(4, four) + five + six + section(7) + END, discipline=200)
+
+
+def extreme_files():
+    """Fields at both ends of what they can hold: the time is not checked, and no number is special."""
+    for octet in (b"\0", b"\xff", b"\x80", b"\x7f"):
+        four = bytes(4) + octet * 30
+        yield message(section(1, octet * 16) + section(3, octet * 9) + section(4, four) + section(5, octet * 6)
+                      + section(6, octet) + section(7, octet * 3) + END, discipline=octet[0])
+
+
+def as_the_reference(what, files, at):
+    """All files in one run each of index, fields and fields --json."""
+    paths = [write(at / f"{what}-{i}", file) for i, file in enumerate(files)]
+    head = "file {}\n" if len(paths) > 1 else ""
+    status = max(1 if reference.walk(file).outcome else 0 for file in files)
+    tables = {path: fields_of(file) for path, file in zip(paths, files)}
+    done = run("index", *paths)
+    expected = "".join(head.format(path) + index_of(file) for path, file in zip(paths, files))
+    check(f"index of {len(files)} files as reference.py says: {what}", (done.returncode, done.stdout) == (status, expected.encode()),
+          first_difference(done.stdout.decode(), expected))
+    done = run("fields", *paths)
+    expected = "".join(head.format(path) + as_table(rows) for path, rows in tables.items())
+    check(f"fields of {len(files)} files as document 01's reader says: {what}",
+          (done.returncode, done.stdout) == (status, expected.encode()), first_difference(done.stdout.decode(), expected))
+    done = run("fields", "--json", *paths)
+    objects = [json.loads(line, object_pairs_hook=list) for line in done.stdout.splitlines()]
+    expected = [pairs for path, rows in tables.items() for pairs in as_objects(str(path), rows)]
+    check(f"fields --json of {len(files)} files: {what}", (done.returncode, objects) == (status, expected),
+          first_difference("\n".join(map(str, objects)), "\n".join(map(str, expected))))
+
+
+def first_difference(found, expected):
+    pairs = list(zip(found.splitlines() + ["(end)"], expected.splitlines() + ["(end)"]))
+    for number, (one, other) in enumerate(pairs, 1):
+        if one != other:
+            return f"line {number}\nfound    {one}\nexpected {other}"
+    return "the status alone differs"
+
+
+def refusals_are_told(at):
+    """Of each kind of refusal in the answers written by hand, one: standard error has its numbers and its words."""
+    words = {2: "cut", 3: "other edition", 4: "total under 16", 5: "no end mark", 6: "length under 5", 7: "unknown number",
+             8: "payload under least", 9: "longer than the rest", 10: "input over", 11: "misplaced", 12: "no grid"}
+    cases = {int(end.split()[0]): (file, end) for file, *_, end in walk_files.by_hand()}
+    for outcome, word in words.items():
+        file, end = cases[outcome]
+        _, place, offset, detail = end.split()
+        done = run("index", write(at / "refused", file))
+        said = f"refused: refused by {outcome} ({word}): "
+        numbers = f"; place {place}, offset {offset}, detail {detail}"
+        check(f"refusal {outcome} is told in words and numbers, in one line", done.returncode == 1 and said.encode() in done.stderr
+              and numbers.encode() in done.stderr and done.stderr.count(b"\n") == 1, done)
+
+
+# --- eccodes -------------------------------------------------------------------------------------
+
+def eccodes_files():
+    """The samples that are messages of edition 2."""
+    return [path for path in sorted(ECCODES_SAMPLES.glob("*.tmpl")) if path.read_bytes()[:8:7] == b"G\2"]
+
+
+def said_by_eccodes(paths):
+    """For each file, of one message, the values of all keys by name, as document 01 reads the same octets. One call: each costs time."""
+    keys = [key for number in (0, 1, 3, 4, 5, 6) for key in replay_lists.KEYS[number]]
+    done = subprocess.run(["grib_get", "-f", "-p", ",".join(key + ":i" for key in keys), *map(str, paths)],
+                          check=True, capture_output=True, text=True)
+    for line in done.stdout.splitlines():
+        yield {key: replay_lists.value_by_01(key, word) for key, word in zip(keys, line.split())}
+
+
+def row_by_eccodes(said):
+    time = "%04d-%02d-%02dT%02d:%02d:%02d" % tuple(said[key] for key in ("year", "month", "day", "hour", "minute", "second"))
+    product = [said[key] for key in replay_lists.KEYS[4][1:]]
+    return ["0.0", 0, said["totalLength"], said["discipline"], said["centre"], said["subCentre"], time, *product,
+            said["gridDefinitionTemplateNumber"], said["numberOfDataPoints"], said["dataRepresentationTemplateNumber"],
+            said["bitMapIndicator"]]
+
+
+def eccodes():
+    if not ECCODES_SAMPLES.is_dir() or shutil.which("grib_get") is None:
+        skip("eccodes' samples", "eccodes is not installed (packages libeccodes-tools and libeccodes-data)")
+        return
+    paths = eccodes_files()
+    done = run("fields", *paths)
+    expected = "".join(f"file {path}\n{as_table([row_by_eccodes(said)])}" for path, said in zip(paths, said_by_eccodes(paths)))
+    check(f"fields of {len(paths)} samples of eccodes as grib_get says", len(paths) > 20 and done.stdout == expected.encode()
+          and done.returncode == 0, first_difference(done.stdout.decode(), expected))
+    done = run("index", *paths)
+    expected = "".join(f"file {path}\n{index_of(path.read_bytes())}" for path in paths)
+    check(f"index of {len(paths)} samples of eccodes as reference.py says", (done.returncode, done.stdout) == (0, expected.encode()),
+          first_difference(done.stdout.decode(), expected))
+
+
+def values_of_the_sample():
+    """That sea.grib2 is what its script means it to be: eccodes decodes its values."""
+    if shutil.which("grib_get_data") is None:
+        skip("the values of the sample sea", "eccodes is not installed (package libeccodes-tools)")
+        return
+    make = loaded_from(SAMPLES / "make.py")
+    done = subprocess.run(["grib_get_data", SAMPLES / "sea.grib2"], capture_output=True, text=True)
+    found = [round(float(line.split()[2]), 6) for line in done.stdout.splitlines() if not line.startswith("Lat")]
+    check_equal("the values of the sample sea, decoded by eccodes, are those that are meant", found,
+                [value for values in make.VALUES_MEANT for value in values if value is not None])
+
+
+def other_edition():
+    old = ECCODES_SAMPLES / "GRIB1.tmpl"
+    if not old.exists():
+        skip("a sample of edition 1", "eccodes is not installed (package libeccodes-data)")
+        return
+    check_ended("a message of edition 1 is refused by 3", run("index", old), 1, b"refused by 3 (other edition): the edition is not 2; "
+                b"place 0, offset 0, detail 1 (the edition)", b"sections 0 submessages 0 messages 0\nend 3 0 0 1\n")
+
+
+def everything():
+    samples_are_as_made()
+    samples_by_hand()
+    several_samples()
+    with folder() as name:
+        at = Path(name)
+        as_the_reference("one file", [walk_files.EVERY_START], at)
+        as_the_reference("answers by hand", [file for file, *_ in walk_files.by_hand()], at)
+        as_the_reference("swept", walk_files.swept()[::2], at)
+        as_the_reference("products", list(product_files()), at)
+        as_the_reference("extremes", list(extreme_files()), at)
+        refusals_are_told(at)
+    values_of_the_sample()
+    eccodes()
+    other_edition()
