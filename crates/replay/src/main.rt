@@ -1,4 +1,5 @@
-// Answers the requests of standard input (REPLAY.md). Its stored list: signed numbers, and the sections of sample A.
+// Answers the requests of standard input (REPLAY.md). Its stored list: signed numbers, the sections of sample A, and fields at the edges of
+// what a section may hold.
 fn main() {
     replaying::run();
 }

@@ -1,4 +1,4 @@
-// `replay` over the stored list of walks whose tables do not fill.
+// `replay` over the stored list of walks, of walks whose tables fill, and of pulls.
 fn main() {
     replaying::run();
 }

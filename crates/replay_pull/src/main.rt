@@ -1,4 +1,0 @@
-// `replay` over the stored list of pulls.
-fn main() {
-    replaying::run();
-}
