@@ -1,6 +1,6 @@
 -- An answer of the public copy or of the writer: outcome, place, offset, detail and the octets written (01, "Refusal numbers").
 -- Assumes nothing.
-use Rattle.numbers.specs.declared.StoreEnd.{StoreEnd}
+use Rattle.index.specs.declared.numbers.StoreEnd.{StoreEnd}
 use Rattle.buttresk.specs.declared.storing.StoreAnswer.{StoreAnswer}
 
 -- the four numbers of an end, and the octets written

@@ -6,7 +6,7 @@ ghost use Rattle.publish.specs.End.{copyEnd};
 ghost use Rattle.writer.specs.Write.{writeOf};
 ghost use Rattle.writer.specs.End.{writeEnd};
 ghost use Rattle.buttresk.specs.Stores.{fiveOf};
-use numbers::StoreEnd;
+use index::StoreEnd;
 use publish::copy_end;
 use publish::publish;
 use writer::write;

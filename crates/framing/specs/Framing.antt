@@ -24,8 +24,11 @@ use Rattle.framing.specs.declared.read.Fault.the-variants.{
   PayloadUnderLeast,
   LongerThanRest,
 }
-use Rattle.framing.specs.declared.read.Read.{Read}
-use Rattle.framing.specs.declared.read.Read.the-variants.{Section, Over, Refused}
+use Rattle.framing.specs.declared.read.How.{How}
+use Rattle.framing.specs.declared.read.How.the-variants as how
+use Rattle.framing.specs.declared.read.Framed.{Framed}
+use Rattle.framing.specs.Read.{Read}
+use Rattle.framing.specs.Read.{Section, Over, Refused}
 
 -- a section, and where the next read is made: at its end, with so many octets of the message left
 abbrev pub section : ℕ → ℕ → ℕ → ℕ → Read
@@ -89,3 +92,17 @@ readAt file at rest =
     (pick (leb (length file) at) Over
     (pick (eqb rest 4) (endAt file at)
     (headerAt file at rest)))
+
+-- a read, with each field set: where there is no section, its fields say nothing, but for the offset of one that is refused
+abbrev pub without : How → ℕ → Framed
+without how at =
+    record {
+      how = how;
+      section = record { number = 0; offset = record { 0 = at }; length = 0 };
+      next = record { at = record { 0 = 0 }; rest = 0 };
+    }
+
+unfoldable pub framed : Read → Framed
+framed (Section s next) = record { how = how.Whole; section = s; next = next }
+framed Over = without how.Over 0
+framed (Refused fault offset) = without (how.Refused fault) (offset .0)

@@ -5,9 +5,10 @@ mod search;
 
 pub use read::Cursor;
 pub use read::Fault;
+pub use read::Framed;
+pub use read::How;
 pub use read::Offset;
-pub use read::Read;
 pub use read::Section;
-pub use read::read_at;
+pub use read::framed_at;
 pub use search::Found;
 pub use search::next_start;

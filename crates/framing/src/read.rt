@@ -3,7 +3,8 @@ ghost use mathlib.Core.Path.{_≡_};
 ghost use Prim.Native.Nat.{_+_, _^_, _<_, _≤_};
 ghost use lib.ListN.{length};
 ghost use Rattle.sections.specs.Kinds.{leastPayloadOf};
-ghost use Rattle.framing.specs.Framing.{section, refused, indicatorAt, endAt, isCut, payloadAt, headerAt, readAt};
+ghost use Rattle.framing.specs.Read.{Over};
+ghost use Rattle.framing.specs.Framing.{section, refused, without, framed, indicatorAt, endAt, isCut, payloadAt, headerAt, readAt};
 use crate::search::Found;
 use crate::search::next_start;
 use crate::search::says;
@@ -38,60 +39,98 @@ pub enum Fault {
     // The file ends inside a header, inside section 8 or inside a payload that is read.
     Cut,
     // The edition is not 2.
-    OtherEdition(u8),
+    OtherEdition(u64),
     // The total length has no room for section 0 itself.
     TotalUnder16,
     // Section 8 is not "7777".
     NotEndMark,
     // The length has no room for the header itself.
-    LengthUnder5(u32),
+    LengthUnder5(u64),
     // The number in a header is not 1 to 7.
-    UnknownNumber(u8),
+    UnknownNumber(u64),
     // The payload, of this size, is under its kind's least.
-    PayloadUnderLeast(u32),
+    PayloadUnderLeast(u64),
     // The section, of this length, is longer than what its message has left.
-    LongerThanRest(u32),
+    LongerThanRest(u64),
 }
 
-pub enum Read {
-    Section(Section, Cursor),
+// A read as every way through the code answers it, each field always set: an enum whose variants differ costs a step a dozen copies.
+pub struct Framed {
+    pub how: How,
+    // The section; of one that is refused the offset alone says something.
+    pub section: Section,
+    pub next: Cursor,
+}
+
+pub enum How {
+    Whole,
     Over,
-    Refused(Fault, Offset),
+    Refused(Fault),
 }
 
-fn refuse(fault: Fault, at: usize) -> Read
-    ensures { λ r. ⌜ r ≡ refused fault at ⌝ }
+fn without(how: How, at: u64) -> Framed
+    ensures { λ r. ⌜ r ≡ without how at ⌝ }
 {
-    Read::Refused(fault, Offset(at as u64))
+    Framed {
+        how,
+        section: Section {
+            number: 0,
+            offset: Offset(at),
+            length: 0,
+        },
+        next: Cursor {
+            at: Offset(0),
+            rest: 0,
+        },
+    }
 }
 
-fn section_at(number: u64, at: usize, length: u32, rest: u64) -> Read
+fn over() -> Framed
+    ensures { λ r. ⌜ r ≡ framed Over ⌝ }
+{
+    without(How::Over, 0)
+}
+
+fn refuse(fault: Fault, at: usize) -> Framed
+    ensures { λ r. ⌜ r ≡ framed (refused fault at) ⌝ }
+{
+    without(How::Refused(fault), at as u64)
+}
+
+fn section_at(number: u64, at: usize, length: u32, rest: u64) -> Framed
     requires { ⌜ at + length < 2 ^ 64 ⌝ }
-    ensures { λ r. ⌜ r ≡ section number at length rest ⌝ }
+    ensures { λ r. ⌜ r ≡ framed (section number at length rest) ⌝ }
 {
     let offset = at as u64;
     let octets = length as u64;
-    Read::Section(
-        Section {
+    Framed {
+        how: How::Whole,
+        section: Section {
             number,
             offset: Offset(offset),
             length: octets,
         },
-        Cursor {
+        next: Cursor {
             at: Offset(offset + octets),
             rest,
         },
-    )
+    }
+}
+
+fn other_edition(edition: u8) -> Fault
+    ensures { λ r. ⌜ r ≡ Fault.OtherEdition edition ⌝ }
+{
+    Fault::OtherEdition(edition as u64)
 }
 
 // Section 0, from its G on.
-fn indicator_at(file: &[u8], g: usize) -> Read
+fn indicator_at(file: &[u8], g: usize) -> Framed
     requires { ⌜ g + 16 ≤ length (now file) ⌝ }
-    ensures { λ r. ⌜ r ≡ indicatorAt (now (file .entry)) g ⌝ }
+    ensures { λ r. ⌜ r ≡ framed (indicatorAt (now (file .entry)) g) ⌝ }
 {
     let edition = file[g + 7];
     if edition != 2 {
-        return refuse(Fault::OtherEdition(edition), g);
+        return refuse(other_edition(edition), g);
     }
     let total = be64([
         file[g + 8],
@@ -115,9 +154,9 @@ fn indicator_at(file: &[u8], g: usize) -> Read
 }
 
 // Section 8, where at least one octet is left.
-fn end_at(file: &[u8], at: usize) -> Read
+fn end_at(file: &[u8], at: usize) -> Framed
     requires { ⌜ at ≤ length (now file) ⌝ }
-    ensures { λ r. ⌜ r ≡ endAt (now (file .entry)) at ⌝ }
+    ensures { λ r. ⌜ r ≡ framed (endAt (now (file .entry)) at) ⌝ }
 {
     if file.len() - at < EndSection::WHOLE_SIZE {
         return refuse(Fault::Cut, at);
@@ -147,31 +186,31 @@ fn is_cut(number: u64, length: u32, left: usize) -> bool
 }
 
 // A section whose header says its number and its length, of which the header itself is a part.
-fn payload_at(at: usize, number: u8, length: u32, left: usize, rest: u64) -> Read
+fn payload_at(at: usize, number: u8, length: u32, left: usize, rest: u64) -> Framed
     requires { ⌜ (at + length < 2 ^ 64) × (5 ≤ length) ⌝ }
-    ensures { λ r. ⌜ r ≡ payloadAt (leastPayloadOf number) at number length left rest ⌝ }
+    ensures { λ r. ⌜ r ≡ framed (payloadAt (leastPayloadOf number) at number length left rest) ⌝ }
 {
     let known = least_payload_of(number as u64);
     let LeastPayload::Octets(least) = known else {
-        return refuse(Fault::UnknownNumber(number), at);
+        return refuse(Fault::UnknownNumber(number as u64), at);
     };
     if is_cut(number as u64, length, left) {
         return refuse(Fault::Cut, at);
     }
     let payload = length - HEADER_SIZE as u32;
     if (payload as usize) < least {
-        return refuse(Fault::PayloadUnderLeast(payload), at);
+        return refuse(Fault::PayloadUnderLeast(payload as u64), at);
     }
     if rest < length as u64 {
-        return refuse(Fault::LongerThanRest(length), at);
+        return refuse(Fault::LongerThanRest(length as u64), at);
     }
     section_at(number as u64, at, length, rest - length as u64)
 }
 
 // A section with a header, where at least one octet is left.
-fn header_at(file: &[u8], at: usize, rest: u64) -> Read
+fn header_at(file: &[u8], at: usize, rest: u64) -> Framed
     requires { ⌜ at ≤ length (now file) ⌝ }
-    ensures { λ r. ⌜ r ≡ headerAt (now (file .entry)) at rest ⌝ }
+    ensures { λ r. ⌜ r ≡ framed (headerAt (now (file .entry)) at rest) ⌝ }
 {
     let left = file.len() - at;
     if left < HEADER_SIZE {
@@ -179,15 +218,15 @@ fn header_at(file: &[u8], at: usize, rest: u64) -> Read
     }
     let length = be32([file[at], file[at + 1], file[at + 2], file[at + 3]]);
     if length < HEADER_SIZE as u32 {
-        return refuse(Fault::LengthUnder5(length), at);
+        return refuse(Fault::LengthUnder5(length as u64), at);
     }
     payload_at(at, file[at + 4], length, left, rest)
 }
 
 // What stands at the cursor: between messages (rest 0) the next section 0, else section 8 where just its size is
 // left, else a section with a header.
-pub fn read_at(file: &[u8], cursor: Cursor) -> Read
-    ensures { λ r. ⌜ r ≡ readAt (now (file .entry)) (cursor .at .0) (cursor .rest) ⌝ }
+pub fn framed_at(file: &[u8], cursor: Cursor) -> Framed
+    ensures { λ r. ⌜ r ≡ framed (readAt (now (file .entry)) (cursor .at .0) (cursor .rest)) ⌝ }
 {
     let offset = cursor.at;
     let rest = cursor.rest;
@@ -196,11 +235,11 @@ pub fn read_at(file: &[u8], cursor: Cursor) -> Read
         let found = next_start(file, at);
         return match found {
             Found::At(g) => indicator_at(file, g),
-            Found::Nowhere => Read::Over,
+            Found::Nowhere => over(),
         };
     }
     if file.len() <= at {
-        return Read::Over;
+        return over();
     }
     if rest == EndSection::WHOLE_SIZE as u64 {
         end_at(file, at)

@@ -1,4 +1,4 @@
 // The index of the file on standard input (document 01, "Sample files"). Its stored input: sample A.
 fn main() {
-    indexing::run();
+    replaying::print_index();
 }

@@ -1,4 +1,4 @@
 // As gribwalk. Its stored input: as many octets as are walked, and more sections than its table has rows.
 fn main() {
-    indexing::run();
+    replaying::print_index();
 }

@@ -1,4 +1,4 @@
 // As gribwalk. Its stored input: sample A, and a message that ends in a refusal.
 fn main() {
-    indexing::run();
+    replaying::print_index();
 }

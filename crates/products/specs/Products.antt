@@ -8,9 +8,9 @@ use Rattle.octets.specs.BigEndian.{beAt}
 use Rattle.octets.specs.Signed.{signedOf}
 use Rattle.octets.specs.declared.Signed.{Signed}
 use Rattle.octets.specs.declared.Signed.the-variants.{Number, NoNumber}
-use Rattle.templates.specs.Templates.{isSupported, processIndex, timeIndex, surfacesIndex}
-use Rattle.templates.specs.declared.Index.{Index}
-use Rattle.templates.specs.declared.Index.the-variants.{At, Absent}
+use Rattle.products.specs.Templates.{isSupported, processIndex, timeIndex, surfacesIndex}
+use Rattle.products.specs.declared.templates.Index.{Index}
+use Rattle.products.specs.declared.templates.Index.the-variants.{At, Absent}
 use Rattle.products.specs.declared.MaybeOctet.{MaybeOctet}
 use Rattle.products.specs.declared.MaybeOctet.the-variants.{Octet, NoOctet}
 use Rattle.products.specs.declared.MaybeTime.{MaybeTime}

@@ -1,9 +1,11 @@
 // Product fields (document 01, "Fields"; the crate's ProdDefinition): what a payload of section 4 says by its
-// template. The template begins at payload octet 4; what stands where in it is asked of the crate
-// `templates`.
+// template. The template begins at payload octet 4; what stands where in it is asked of `templates`.
 ghost use mathlib.Core.Path.{_≡_};
 ghost use lib.ListN.{drop};
 ghost use Rattle.products.specs.Products.{octetOf, timeOf, surfaceOf, surfacesOf, supportedOf, categoryOf, numberOf, processOf, forecastOf, fixedOf};
+
+mod templates;
+
 use octets::Signed;
 use octets::be16;
 use octets::be32;

@@ -9,7 +9,6 @@ use base.Logic.{id⊢}
 use contract.Monad.{fact-mono}
 use denote.Ref.{now}
 use Rattle.octets.proofs as octets
-use Rattle.templates.proofs as templates
 use Rattle.sections.proofs as sections
 use Rattle.sections.proofs.indicator.Indicator as Indicator
 use Rattle.sections.proofs.identification.Identification as Identification
@@ -23,36 +22,27 @@ use Rattle.sections.proofs.unread.EndSection as EndSection
 use Rattle.products.proofs as products
 use Rattle.framing.proofs as framing
 use Rattle.order.proofs as order
-use Rattle.lines.proofs as lines
-use Rattle.state.proofs as state
-use Rattle.machine.proofs as machine
-use Rattle.numbers.proofs as numbers
+use Rattle.index.proofs as index
+use Rattle.reading.proofs as reading
 use Rattle.walk.proofs as walk
-use Rattle.numbered.proofs as numbered
 use Rattle.pull.proofs as pull
-use Rattle.resume.proofs as resume
-use Rattle.desk.proofs as desk
 use Rattle.publish.proofs as publish
 use Rattle.writer.proofs as writer
-use Rattle.requests.proofs as requests
-use Rattle.indexing.proofs as indexing
 use Rattle.buttresk.proofs as buttresk
 use Rattle.framing.specs.Search.{nextStart}
 use Rattle.framing.proofs.NextStart.{next-start-is}
-use Rattle.lines.specs.declared.Line.{Line}
-use Rattle.walk.specs.declared.tables.Answer.{Answer}
+use Rattle.index.specs.declared.line.Line.{Line}
+use Rattle.walk.specs.declared.lines.Answer.{Answer}
 use Rattle.pull.specs.Calls.{firstOf, pullAt}
 use Rattle.pull.specs.declared.Reader.{Reader}
 use Rattle.pull.specs.declared.Progress.{Progress}
 use Rattle.pull.specs.declared.Pulled.{Pulled}
 use Rattle.publish.specs.declared.Published.{Published}
 use Rattle.writer.specs.declared.Written.{Written}
-use Rattle.state.specs.declared.walk.Walk.{Walk}
-use Rattle.walk.specs.Turns.{stepOf, rowsAfter}
-use Rattle.numbered.specs.declared.walking.WalkAnswer.{WalkAnswer}
+use Rattle.walk.specs.declared.numbers.WalkAnswer.{WalkAnswer}
 use Rattle.buttresk.specs.declared.storing.StoreAnswer.{StoreAnswer}
 use Rattle.promises.specs.Contract.{Promised, Promise}
-use Rattle.promises.proofs.Told.{both, then-by, told}
+use Rattle.promises.proofs.Told.{both, told}
 
 -- a reader is its file and its progress
 one-reader : {r : Reader} {file : _} {progress : Progress} → r .file ≡ file → r .progress ≡ progress
@@ -79,22 +69,6 @@ module _ {M : Type 1} where
 
   pub octets-sign-and-size : Promise octets.sign_and_size.ended {M = M} octets.sign_and_size.clauses octets.sign_and_size.Symbol.routine
   octets-sign-and-size = told _ _ _ _ _ octets.sign_and_size.Met.met (λ n. refl) (λ n. _) (λ n r e. id⊢ (n .memory) _)
-
-  -- templates: where a product's fields stand, by its template number
-  pub templates-supported : Promise templates.supported.ended {M = M} templates.supported.clauses templates.supported.Symbol.routine
-  templates-supported = told _ _ _ _ _ templates.supported.Met.met (λ n. refl) (λ n. _) (λ n r e. id⊢ (n .memory) _)
-
-  pub templates-generating-process :
-      Promise templates.generating_process.ended {M = M} templates.generating_process.clauses templates.generating_process.Symbol.routine
-  templates-generating-process = told _ _ _ _ _ templates.generating_process.Met.met (λ n. refl) (λ n. _) (λ n r e. id⊢ (n .memory) _)
-
-  pub templates-forecast-time :
-      Promise templates.forecast_time.ended {M = M} templates.forecast_time.clauses templates.forecast_time.Symbol.routine
-  templates-forecast-time = told _ _ _ _ _ templates.forecast_time.Met.met (λ n. refl) (λ n. _) (λ n r e. id⊢ (n .memory) _)
-
-  pub templates-fixed-surfaces :
-      Promise templates.fixed_surfaces.ended {M = M} templates.fixed_surfaces.clauses templates.fixed_surfaces.Symbol.routine
-  templates-fixed-surfaces = told _ _ _ _ _ templates.fixed_surfaces.Met.met (λ n. refl) (λ n. _) (λ n r e. id⊢ (n .memory) _)
 
   -- sections: the kinds, and the decoded fields
   pub Indicator-kind : Promise Indicator.kind.ended {M = M} Indicator.kind.clauses Indicator.kind.Symbol.routine
@@ -184,13 +158,13 @@ module _ {M : Type 1} where
   products-fixed-surfaces = told _ _ _ _ _ products.fixed_surfaces.Met.met (λ n. refl) (λ n. _) (λ n r e. id⊢ (n .memory) _)
 
   -- framing: where the next message starts, and what stands there. `next_start`'s contract says which start is the first: there is one
+  pub framing-framed-at : Promise framing.framed_at.ended {M = M} framing.framed_at.clauses framing.framed_at.Symbol.routine
+  framing-framed-at = told _ _ _ _ _ framing.framed_at.Met.met (λ n. refl) (λ n. _) (λ n r e. id⊢ (n .memory) _)
+
   pub framing-next-start : Promise framing.next_start.ended {M = M} framing.next_start.clauses framing.next_start.Symbol.routine
   framing-next-start =
       told _ _ _ _ _ framing.next_start.Met.met (λ n. refl) (λ n. nextStart (now (n .arguments .0)) (n .arguments .1 .0))
       (λ n r e. fact-mono (n .memory) _ _ (next-start-is (now (n .arguments .0)) (n .arguments .1 .0) r))
-
-  pub framing-read-at : Promise framing.read_at.ended {M = M} framing.read_at.clauses framing.read_at.Symbol.routine
-  framing-read-at = told _ _ _ _ _ framing.read_at.Met.met (λ n. refl) (λ n. _) (λ n r e. id⊢ (n .memory) _)
 
   -- order: which section may come next
   pub order-judge : Promise order.judge.ended {M = M} order.judge.clauses order.judge.Symbol.routine
@@ -207,80 +181,42 @@ module _ {M : Type 1} where
   order-judge-all = told _ _ _ _ _ order.judge_all.Met.met (λ n. refl) (λ n. _) (λ n r e. id⊢ (n .memory) _)
 
   -- lines: what is in force, and a submessage's line
-  pub lines-opened : Promise lines.opened.ended {M = M} lines.opened.clauses lines.opened.Symbol.routine
-  lines-opened = told _ _ _ _ _ lines.opened.Met.met (λ n. refl) (λ n. _) (λ n r e. id⊢ (n .memory) _)
+  pub index-opened : Promise index.opened.ended {M = M} index.opened.clauses index.opened.Symbol.routine
+  index-opened = told _ _ _ _ _ index.opened.Met.met (λ n. refl) (λ n. _) (λ n r e. id⊢ (n .memory) _)
 
-  pub lines-in-force : Promise lines.in_force.ended {M = M} lines.in_force.clauses lines.in_force.Symbol.routine
-  lines-in-force = told _ _ _ _ _ lines.in_force.Met.met (λ n. refl) (λ n. _) (λ n r e. id⊢ (n .memory) _)
+  pub index-in-force : Promise index.in_force.ended {M = M} index.in_force.clauses index.in_force.Symbol.routine
+  index-in-force = told _ _ _ _ _ index.in_force.Met.met (λ n. refl) (λ n. _) (λ n r e. id⊢ (n .memory) _)
 
-  pub lines-with-submessage :
-      Promise lines.with_submessage.ended {M = M} lines.with_submessage.clauses lines.with_submessage.Symbol.routine
-  lines-with-submessage = told _ _ _ _ _ lines.with_submessage.Met.met (λ n. refl) (λ n. _) (λ n r e. id⊢ (n .memory) _)
+  pub index-with-submessage :
+      Promise index.with_submessage.ended {M = M} index.with_submessage.clauses index.with_submessage.Symbol.routine
+  index-with-submessage = told _ _ _ _ _ index.with_submessage.Met.met (λ n. refl) (λ n. _) (λ n r e. id⊢ (n .memory) _)
 
-  pub lines-line-of : Promise lines.line_of.ended {M = M} lines.line_of.clauses lines.line_of.Symbol.routine
-  lines-line-of = told _ _ _ _ _ lines.line_of.Met.met (λ n. refl) (λ n. _) (λ n r e. id⊢ (n .memory) _)
+  pub index-line-of : Promise index.line_of.ended {M = M} index.line_of.clauses index.line_of.Symbol.routine
+  index-line-of = told _ _ _ _ _ index.line_of.Met.met (λ n. refl) (λ n. _) (λ n r e. id⊢ (n .memory) _)
 
-  -- state: how the walk's state may change
-  pub state-unstarted : Promise state.unstarted.ended {M = M} state.unstarted.clauses state.unstarted.Symbol.routine
-  state-unstarted = told _ _ _ _ _ state.unstarted.Met.met (λ n. refl) (λ n. _) (λ n r e. id⊢ (n .memory) _)
+  pub index-end-of : Promise index.end_of.ended {M = M} index.end_of.clauses index.end_of.Symbol.routine
+  index-end-of = told _ _ _ _ _ index.end_of.Met.met (λ n. refl) (λ n. _) (λ n r e. id⊢ (n .memory) _)
 
-  pub state-afresh : Promise state.afresh.ended {M = M} state.afresh.clauses state.afresh.Symbol.routine
-  state-afresh = told _ _ _ _ _ state.afresh.Met.met (λ n. refl) (λ n. _) (λ n r e. id⊢ (n .memory) _)
+  pub index-unlisted : Promise index.unlisted.ended {M = M} index.unlisted.clauses index.unlisted.Symbol.routine
+  index-unlisted = told _ _ _ _ _ index.unlisted.Met.met (λ n. refl) (λ n. _) (λ n r e. id⊢ (n .memory) _)
 
-  pub state-refuse : Promise state.refuse.ended {M = M} state.refuse.clauses state.refuse.Symbol.routine
-  state-refuse = told _ _ _ _ _ state.refuse.Met.met (λ n. refl) (λ n. _) (λ n r e. id⊢ (n .memory) _)
+  pub index-stored : Promise index.stored.ended {M = M} index.stored.clauses index.stored.Symbol.routine
+  index-stored = told _ _ _ _ _ index.stored.Met.met (λ n. refl) (λ n. _) (λ n r e. id⊢ (n .memory) _)
 
-  pub state-finish : Promise state.finish.ended {M = M} state.finish.clauses state.finish.Symbol.routine
-  state-finish = told _ _ _ _ _ state.finish.Met.met (λ n. refl) (λ n. _) (λ n r e. id⊢ (n .memory) _)
+  pub index-unplaced : Promise index.unplaced.ended {M = M} index.unplaced.clauses index.unplaced.Symbol.routine
+  index-unplaced = told _ _ _ _ _ index.unplaced.Met.met (λ n. refl) (λ n. _) (λ n r e. id⊢ (n .memory) _)
 
-  pub state-complete : Promise state.complete.ended {M = M} state.complete.clauses state.complete.Symbol.routine
-  state-complete = told _ _ _ _ _ state.complete.Met.met (λ n. refl) (λ n. _) (λ n r e. id⊢ (n .memory) _)
+  -- reading: the one step
+  pub reading-start : Promise reading.start.ended {M = M} reading.start.clauses reading.start.Symbol.routine
+  reading-start = told _ _ _ _ _ reading.start.Met.met (λ n. refl) (λ n. _) (λ n r e. id⊢ (n .memory) _)
 
-  pub state-pass : Promise state.pass.ended {M = M} state.pass.clauses state.pass.Symbol.routine
-  state-pass = told _ _ _ _ _ state.pass.Met.met (λ n. refl) (λ n. _) (λ n r e. id⊢ (n .memory) _)
+  pub reading-look : Promise reading.look.ended {M = M} reading.look.clauses reading.look.Symbol.routine
+  reading-look = told _ _ _ _ _ reading.look.Met.met (λ n. refl) (λ n. _) (λ n r e. id⊢ (n .memory) _)
 
-  pub state-close : Promise state.close.ended {M = M} state.close.clauses state.close.Symbol.routine
-  state-close = told _ _ _ _ _ state.close.Met.met (λ n. refl) (λ n. _) (λ n r e. id⊢ (n .memory) _)
+  pub reading-glance : Promise reading.glance.ended {M = M} reading.glance.clauses reading.glance.Symbol.routine
+  reading-glance = told _ _ _ _ _ reading.glance.Met.met (λ n. refl) (λ n. _) (λ n r e. id⊢ (n .memory) _)
 
-  -- machine: one step of the walk
-  pub machine-unlimited : Promise machine.unlimited.ended {M = M} machine.unlimited.clauses machine.unlimited.Symbol.routine
-  machine-unlimited = told _ _ _ _ _ machine.unlimited.Met.met (λ n. refl) (λ n. _) (λ n r e. id⊢ (n .memory) _)
-
-  pub machine-advance : Promise machine.advance.ended {M = M} machine.advance.clauses machine.advance.Symbol.routine
-  machine-advance = told _ _ _ _ _ machine.advance.Met.met (λ n. refl) (λ n. _) (λ n r e. id⊢ (n .memory) _)
-
-  pub machine-start : Promise machine.start.ended {M = M} machine.start.clauses machine.start.Symbol.routine
-  machine-start = told _ _ _ _ _ machine.start.Met.met (λ n. refl) (λ n. _) (λ n r e. id⊢ (n .memory) _)
-
-  -- numbers: document 01's
-  pub numbers-refusal-number :
-      Promise numbers.refusal_number.ended {M = M} numbers.refusal_number.clauses numbers.refusal_number.Symbol.routine
-  numbers-refusal-number = told _ _ _ _ _ numbers.refusal_number.Met.met (λ n. refl) (λ n. _) (λ n r e. id⊢ (n .memory) _)
-
-  pub numbers-refusal-detail :
-      Promise numbers.refusal_detail.ended {M = M} numbers.refusal_detail.clauses numbers.refusal_detail.Symbol.routine
-  numbers-refusal-detail = told _ _ _ _ _ numbers.refusal_detail.Met.met (λ n. refl) (λ n. _) (λ n r e. id⊢ (n .memory) _)
-
-  pub numbers-end-of : Promise numbers.end_of.ended {M = M} numbers.end_of.clauses numbers.end_of.Symbol.routine
-  numbers-end-of = told _ _ _ _ _ numbers.end_of.Met.met (λ n. refl) (λ n. _) (λ n r e. id⊢ (n .memory) _)
-
-  pub numbers-stored : Promise numbers.stored.ended {M = M} numbers.stored.clauses numbers.stored.Symbol.routine
-  numbers-stored = told _ _ _ _ _ numbers.stored.Met.met (λ n. refl) (λ n. _) (λ n r e. id⊢ (n .memory) _)
-
-  pub numbers-unplaced : Promise numbers.unplaced.ended {M = M} numbers.unplaced.clauses numbers.unplaced.Symbol.routine
-  numbers-unplaced = told _ _ _ _ _ numbers.unplaced.Met.met (λ n. refl) (λ n. _) (λ n r e. id⊢ (n .memory) _)
-
-  -- walk: one step and the section table after it; the answer and both tables
-  pub walk-step :
-      Promised walk.step.ended {M = M} walk.step.clauses walk.step.Symbol.routine (λ κs. Walk × List ℕ) (λ κs r e. (r, now (e .1 .0)))
-  walk-step =
-      told _ _ _ _ _ walk.step.Met.met (λ n. refl)
-      (λ n.
-      let rows = now (n .arguments .1 .0) in
-      let next = stepOf (now (n .arguments .0)) (length rows) (n .arguments .1 .1 .0) (n .arguments .1 .1 .1 .0) in
-      (next, rowsAfter (next .passed) (next .last) rows))
-      (λ n r e. then-by (n .memory) _ (λ (w : Walk). rowsAfter (w .passed) (w .last) (now (n .arguments .1 .0))) (id⊢ (n .memory) _) (id⊢ (n .memory) _))
-
+  -- walk: the answer and both tables
   pub walk-walk :
       Promised walk.walk.ended {M = M} walk.walk.clauses walk.walk.Symbol.routine (λ κs. Answer × (List ℕ × List Line))
       (λ κs r e. (r, (now (e .1 .0), now (e .1 .1 .0))))
@@ -311,19 +247,6 @@ module _ {M : Type 1} where
       (one .answer, record { file = reader .file; progress = one .next }))
       (λ n r e. fact-mono (n .memory) _ _ (λ h. both-readers (h .0) (h .1 .0) (h .1 .1)))
 
-  -- resume: the reader's `next` at a place that is passed
-  pub resume-next-of : Promise resume.next_of.ended {M = M} resume.next_of.clauses resume.next_of.Symbol.routine
-  resume-next-of = told _ _ _ _ _ resume.next_of.Met.met (λ n. refl) (λ n. _) (λ n r e. id⊢ (n .memory) _)
-
-  -- desk: the answer, all lines, and the rows that were lent
-  pub desk-walk-at-desk :
-      Promised desk.walk_at_desk.ended {M = M} desk.walk_at_desk.clauses desk.walk_at_desk.Symbol.routine
-      (λ κs. Answer × (List Line × List ℕ))
-      (λ κs r e. (r .answer, (r .lines, now (e .1 .0))))
-  desk-walk-at-desk =
-      told _ _ _ _ _ desk.walk_at_desk.Met.met (λ n. refl) (λ n. _)
-      (λ n r e. both (n .memory) (id⊢ (n .memory) _) (both (n .memory) (id⊢ (n .memory) _) (id⊢ (n .memory) _)))
-
   -- publish: the answer and the whole destination
   pub publish-publish :
       Promised publish.publish.ended {M = M} publish.publish.clauses publish.publish.Symbol.routine
@@ -344,19 +267,12 @@ module _ {M : Type 1} where
   pub writer-write-end : Promise writer.write_end.ended {M = M} writer.write_end.clauses writer.write_end.Symbol.routine
   writer-write-end = told _ _ _ _ _ writer.write_end.Met.met (λ n. refl) (λ n. _) (λ n r e. id⊢ (n .memory) _)
 
-  -- requests, indexing: the request that stands at a place of the input; how many of the lines counted a table holds
-  pub requests-request-at : Promise requests.request_at.ended {M = M} requests.request_at.clauses requests.request_at.Symbol.routine
-  requests-request-at = told _ _ _ _ _ requests.request_at.Met.met (λ n. refl) (λ n. _) (λ n r e. id⊢ (n .memory) _)
-
-  pub indexing-at-most : Promise indexing.at_most.ended {M = M} indexing.at_most.clauses indexing.at_most.Symbol.routine
-  indexing-at-most = told _ _ _ _ _ indexing.at_most.Met.met (λ n. refl) (λ n. _) (λ n r e. id⊢ (n .memory) _)
-
   -- numbered: the answer and both tables of numbers
-  pub numbered-walk-numbers :
-      Promised numbered.walk_numbers.ended {M = M} numbered.walk_numbers.clauses numbered.walk_numbers.Symbol.routine
+  pub walk-walk-numbers :
+      Promised walk.walk_numbers.ended {M = M} walk.walk_numbers.clauses walk.walk_numbers.Symbol.routine
       (λ κs. WalkAnswer × (List ℕ × List ℕ)) (λ κs r e. (r, (now (e .1 .0), now (e .1 .1 .0))))
-  numbered-walk-numbers =
-      told _ _ _ _ _ numbered.walk_numbers.Met.met (λ n. refl) (λ n. _)
+  walk-walk-numbers =
+      told _ _ _ _ _ walk.walk_numbers.Met.met (λ n. refl) (λ n. _)
       (λ n r e. both (n .memory) (id⊢ (n .memory) _) (both (n .memory) (id⊢ (n .memory) _) (id⊢ (n .memory) _)))
 
   -- buttresk, the C face: of the walk the answer and both tables, of the copy and the writer the answer and the destination

@@ -5,17 +5,17 @@ use mathlib.Core.Path.{_≡_, ap}
 use mathlib.Core.Bool.{false, not, not-eq-not}
 use mathlib.Core.List.{List}
 use Rattle.framing.proofs.Tests.{never-both}
-use Rattle.numbers.specs.Numbers.{endOf}
-use Rattle.numbers.specs.declared.End.{End}
-use Rattle.state.specs.declared.refusal.Outcome.the-variants.{Clean}
-use Rattle.machine.specs.Machine.{unlimited}
-use Rattle.meaning.specs.Walk.{Told, walked}
+use Rattle.index.specs.Numbers.{endOf}
+use Rattle.index.specs.declared.numbers.End.{End}
+use Rattle.index.specs.declared.refusal.Outcome.the-variants.{Clean}
+use Rattle.index.specs.Bounds.{unlimited}
+use Rattle.index.specs.Walk.{Told, walked}
 use Rattle.publish.specs.Values.{licensed, isValue, inMessage}
 use Rattle.publish.specs.Copy.{stays, publicCopy}
-use Rattle.laws.specs.Rows.{Not}
-use Rattle.blind.specs.Blindness.{One, Public}
-use Rattle.blind.proofs.Spared.{and-left, and-right, terms-pass}
-use Rattle.blind.proofs.Theorems.{blindness, public-copies}
+use Rattle.walk_laws.specs.Rows.{Not}
+use Rattle.blindness.specs.Blindness.{One, Public}
+use Rattle.blindness.proofs.Spared.{and-left, and-right, terms-pass}
+use Rattle.blindness.proofs.Theorems.{blindness, public-copies}
 use Rattle.promises.specs.Promises.{ended, listed, IsValuesOctet, IsInsideMessage, DifferInValuesOnly}
 use Rattle.promises.proofs.Copying.{is-clean}
 

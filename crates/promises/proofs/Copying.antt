@@ -9,23 +9,23 @@ use lib.Seq.{take-at}
 use borrow.Author.Tests.{lt-ltb, le-ltb}
 use Rattle.framing.specs.declared.read.Fault.{Fault}
 use Rattle.framing.specs.declared.read.Fault.the-variants as fault
-use Rattle.numbers.specs.Numbers.{faultNumber, refusalNumber, endOf, stored, unplaced}
-use Rattle.numbers.specs.declared.End.{End}
-use Rattle.numbers.specs.declared.StoreEnd.{StoreEnd}
-use Rattle.state.specs.declared.refusal.Refusal.{Refusal}
-use Rattle.state.specs.declared.refusal.Refusal.the-variants as refusal
-use Rattle.state.specs.declared.refusal.Outcome.{Outcome}
-use Rattle.state.specs.declared.refusal.Outcome.the-variants as outcome
-use Rattle.machine.specs.Machine.{unlimited}
-use Rattle.meaning.specs.Walk.{walked}
+use Rattle.index.specs.Numbers.{faultNumber, refusalNumber, endOf, stored, unplaced}
+use Rattle.index.specs.declared.numbers.End.{End}
+use Rattle.index.specs.declared.numbers.StoreEnd.{StoreEnd}
+use Rattle.index.specs.declared.refusal.Refusal.{Refusal}
+use Rattle.index.specs.declared.refusal.Refusal.the-variants as refusal
+use Rattle.index.specs.declared.refusal.Outcome.{Outcome}
+use Rattle.index.specs.declared.refusal.Outcome.the-variants as outcome
+use Rattle.index.specs.Bounds.{unlimited}
+use Rattle.index.specs.Walk.{walked}
 use Rattle.publish.specs.Values.{licensed}
 use Rattle.publish.specs.Copy.{publicCopy, byOutcome, copyOf}
 use Rattle.publish.specs.End.{copyEnd}
 use Rattle.publish.proofs.Runs.{split}
-use Rattle.laws.specs.Rows.{Not, Iff}
-use Rattle.laws.specs.ExactlyWhen.{TooLong, NotTooLong, EndsClean, between}
-use Rattle.laws.proofs.WholeWalk.{walk-refused-exactly-when, walk-clean-exactly-when}
-use Rattle.blind.proofs.Copies.{length-copy}
+use Rattle.walk_laws.specs.Rows.{Not, Iff}
+use Rattle.walk_laws.specs.ExactlyWhen.{TooLong, NotTooLong, EndsClean, between}
+use Rattle.walk_laws.proofs.WholeWalk.{walk-refused-exactly-when, walk-clean-exactly-when}
+use Rattle.blindness.proofs.Copies.{length-copy}
 use Rattle.promises.specs.ExactlyWhen.{CopyGiven, tooLong, tooShort, ofWalk}
 use Rattle.promises.specs.Promises.{ended}
 

@@ -1,13 +1,13 @@
 -- The three demands of specs/Promises.antt are kept. Assumes nothing.
 use mathlib.Core.Path.{sym, _∙_}
-use Rattle.machine.specs.Machine.{unlimited}
+use Rattle.index.specs.Bounds.{unlimited}
 use Rattle.pull.proofs.Sequence.{sequence}
-use Rattle.laws.proofs.Computed.{starred-hold}
-use Rattle.laws.proofs.WholeWalk.{walk-refused-exactly-when, walk-clean-exactly-when}
-use Rattle.laws.proofs.Messages.{closed-messages-are-tiled, each-end-closes-a-message, messages-are-ends, no-end-at-place-0}
-use Rattle.laws.proofs.Counts.{end-places-are-ends, fewer-than-octets, within-room, unlimited-is-never-full, clean-in-any-room}
-use Rattle.laws.proofs.Places.{place-is-count, input-over-at-last}
-use Rattle.blind.proofs.Theorems.{blindness, lent-blindness, public-copies}
+use Rattle.walk_laws.proofs.Computed.{starred-hold}
+use Rattle.walk_laws.proofs.WholeWalk.{walk-refused-exactly-when, walk-clean-exactly-when}
+use Rattle.walk_laws.proofs.Messages.{closed-messages-are-tiled, each-end-closes-a-message, messages-are-ends, no-end-at-place-0}
+use Rattle.walk_laws.proofs.Counts.{end-places-are-ends, fewer-than-octets, within-room, unlimited-is-never-full, clean-in-any-room}
+use Rattle.walk_laws.proofs.Places.{place-is-count, input-over-at-last}
+use Rattle.blindness.proofs.Theorems.{blindness, lent-blindness, public-copies}
 use Rattle.promises.specs.Promises.{Demand1, Demand2, Demand3}
 use Rattle.promises.proofs.Leaves.{walk-stores, walk-leaves, copy-leaves, write-leaves}
 use Rattle.promises.proofs.Pulling.{pull-passes}

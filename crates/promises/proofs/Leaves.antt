@@ -9,12 +9,12 @@ use lib.Seq.{take-at, drop-at}
 use borrow.Author.Tests.{ltb-false}
 use Rattle.framing.specs.declared.read.Section.{Section}
 use Rattle.framing.proofs.Tests.{by-test}
-use Rattle.lines.specs.declared.Line.{Line}
-use Rattle.numbers.specs.Numbers.{stored}
-use Rattle.state.specs.declared.refusal.Outcome.{Outcome}
-use Rattle.state.specs.declared.refusal.Outcome.the-variants as outcome
-use Rattle.machine.specs.Machine.{unlimited}
-use Rattle.meaning.specs.Walk.{Told, walked}
+use Rattle.index.specs.declared.line.Line.{Line}
+use Rattle.index.specs.Numbers.{stored}
+use Rattle.index.specs.declared.refusal.Outcome.{Outcome}
+use Rattle.index.specs.declared.refusal.Outcome.the-variants as outcome
+use Rattle.index.specs.Bounds.{unlimited}
+use Rattle.index.specs.Walk.{Told, walked}
 use Rattle.walk.specs.Tables.{roomOf, rowsOf, walkOf}
 use Rattle.publish.specs.Values.{licensed}
 use Rattle.publish.specs.Copy.{publicCopy, Copied, byOutcome, copyOf}
@@ -27,8 +27,8 @@ use Rattle.writer.specs.declared.Written.{Written}
 use Rattle.writer.specs.declared.Written.the-variants.{Whole, TooManySections, NotOneMessage, OutsideStore, PayloadSize, NoRoom}
 use Rattle.writer.proofs.Checks.{accepted, all-sound}
 use Rattle.writer.proofs.Lengths.{length-message}
-use Rattle.laws.proofs.Counts.{within-room}
-use Rattle.blind.proofs.Copies.{length-copy}
+use Rattle.walk_laws.proofs.Counts.{within-room}
+use Rattle.blindness.proofs.Copies.{length-copy}
 
 -- lent memory keeps its length, and what is past the first so many
 abbrev Leaves : {A : Type 0} → ℕ → List A → List A → Type 0

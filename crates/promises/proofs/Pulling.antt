@@ -5,9 +5,9 @@ use mathlib.Core.Path.{_≡_, refl, ap, _∙_}
 use mathlib.Core.List.{List, [], _∷_}
 use lib.ListN.{length, getD}
 use Rattle.framing.specs.declared.read.Section.{Section}
-use Rattle.state.specs.declared.refusal.Outcome.{Outcome}
-use Rattle.machine.specs.Machine.{unlimited}
-use Rattle.meaning.specs.Walk.{walked}
+use Rattle.index.specs.declared.refusal.Outcome.{Outcome}
+use Rattle.index.specs.Bounds.{unlimited}
+use Rattle.index.specs.Walk.{walked}
 use Rattle.pull.specs.Calls.{pullAt, afterCalls}
 use Rattle.pull.specs.Pull.{handsOut, pulled}
 use Rattle.pull.proofs.Sequence.{sequence}

@@ -3,10 +3,10 @@
 use Prim.Native.Nat.{ℕ, _≤_, _<_}
 use mathlib.Core.List.{List}
 use lib.ListN.{length}
-use Rattle.machine.specs.Machine.{unlimited}
+use Rattle.index.specs.Bounds.{unlimited}
 use Rattle.writer.specs.Plan.{Part}
-use Rattle.laws.specs.ExactlyWhen.{TooLong, NotTooLong, Given}
-use Rattle.trips.specs.Faults.{First, Nowhere, OneMessage, FirstMisfit, Outside, WrongSize, TooLarge}
+use Rattle.walk_laws.specs.ExactlyWhen.{TooLong, NotTooLong, Given}
+use Rattle.round_trip.specs.Faults.{First, Nowhere, OneMessage, FirstMisfit, Outside, WrongSize, TooLarge}
 
 -- number, place, offset and detail of a copy's refusal: 1, 19, then the walk's refusals
 pub data CopyGiven (file dest : List ℕ) : ℕ → ℕ → ℕ → ℕ → Type 0 where

@@ -3,9 +3,9 @@
 use Prim.Native.Nat.{ℕ}
 use Rattle.order.specs.declared.Verdict.{Verdict}
 use Rattle.order.specs.declared.Verdict.the-variants as verdict
-use Rattle.numbers.specs.Numbers.{endOf}
-use Rattle.numbers.specs.declared.End.{End}
-use Rattle.state.specs.declared.refusal.Outcome.the-variants as outcome
+use Rattle.index.specs.Numbers.{endOf}
+use Rattle.index.specs.declared.numbers.End.{End}
+use Rattle.index.specs.declared.refusal.Outcome.the-variants as outcome
 use Rattle.pull.specs.declared.Pulled.{Pulled}
 use Rattle.pull.specs.declared.Pulled.the-variants as pulled
 

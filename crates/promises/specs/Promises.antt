@@ -7,11 +7,11 @@ use mathlib.Core.List.{List, [], _∷_, _++_}
 use lib.ListN.{length, getD, take, drop}
 use Rattle.framing.specs.declared.read.Section.{Section}
 use Rattle.order.specs.Order.{orderOf}
-use Rattle.lines.specs.declared.Line.{Line}
-use Rattle.numbers.specs.Numbers.{endOf, stored, unplaced}
-use Rattle.numbers.specs.declared.End.{End}
-use Rattle.machine.specs.Machine.{unlimited}
-use Rattle.meaning.specs.Walk.{walked}
+use Rattle.index.specs.declared.line.Line.{Line}
+use Rattle.index.specs.Numbers.{endOf, stored, unplaced}
+use Rattle.index.specs.declared.numbers.End.{End}
+use Rattle.index.specs.Bounds.{unlimited}
+use Rattle.index.specs.Walk.{walked}
 use Rattle.walk.specs.Tables.{roomOf, rowsOf, walkOf}
 use Rattle.pull.specs.Calls.{pullAt, afterCalls}
 use Rattle.pull.specs.Pull.{pulled}
@@ -21,9 +21,9 @@ use Rattle.publish.specs.End.{copyEnd}
 use Rattle.writer.specs.Plan.{Part, partsOf}
 use Rattle.writer.specs.Write.{writeOf}
 use Rattle.writer.specs.End.{writeEnd}
-use Rattle.laws.specs.Rows.{Not, Iff}
-use Rattle.laws.specs.ExactlyWhen.{WalkRefusedExactlyWhen, WalkCleanExactlyWhen, EndsClean, NotTooLong}
-use Rattle.laws.specs.Laws.{
+use Rattle.walk_laws.specs.Rows.{Not, Iff}
+use Rattle.walk_laws.specs.ExactlyWhen.{WalkRefusedExactlyWhen, WalkCleanExactlyWhen, EndsClean, NotTooLong}
+use Rattle.walk_laws.specs.Laws.{
   ClosedMessagesAreTiled,
   EachEndClosesAMessage,
   MessagesAreEnds,
@@ -36,11 +36,11 @@ use Rattle.laws.specs.Laws.{
   UnlimitedIsNeverFull,
   CleanInAnyRoom,
 }
-use Rattle.laws.specs.Samples.{StarredHold}
-use Rattle.trips.specs.Faults.{Nowhere, OneMessage}
-use Rattle.trips.specs.ReadBack.{numbersOf, ReadsBack}
-use Rattle.blind.specs.Agree.{decoded}
-use Rattle.blind.specs.Blindness.{Blindness, LentBlindness, PublicCopies}
+use Rattle.walk_laws.specs.Samples.{StarredHold}
+use Rattle.round_trip.specs.Faults.{Nowhere, OneMessage}
+use Rattle.round_trip.specs.ReadBack.{numbersOf, ReadsBack}
+use Rattle.blindness.specs.Agree.{decoded}
+use Rattle.blindness.specs.Blindness.{Blindness, LentBlindness, PublicCopies}
 use Rattle.promises.specs.ExactlyWhen.{CopyGiven, PlanGiven, PlanTaken}
 use Rattle.promises.specs.Handed.{passed, handed, orderNumber}
 

@@ -13,16 +13,17 @@ use Rattle.framing.specs.Framing.{readAt}
 use Rattle.framing.specs.Listing.{Ending, Listing, listed, listingFrom}
 use Rattle.framing.specs.declared.read.Section.{Section}
 use Rattle.framing.specs.declared.read.Cursor.{Cursor}
-use Rattle.framing.specs.declared.read.Read.{Read}
-use Rattle.framing.specs.declared.read.Read.the-variants as read
+use Rattle.framing.specs.Read.{Read}
+use Rattle.framing.specs.Read as read
 use Rattle.framing.proofs.OneRead.{Reads, opens, closes, heads, reads, goes}
 use Rattle.framing.proofs.Listing.{listingOn}
-use Rattle.machine.specs.declared.Room.{Room}
-use Rattle.meaning.specs.Walk.{Reached, Judgement, stops, passes, judgement, followed, walkedFrom}
+use Rattle.index.specs.declared.bounds.Room.{Room}
+use Rattle.index.specs.Walk.{Reached, Judgement, stops, passes, judgement, followed, walkedFrom}
 use Rattle.publish.specs.Values.{licensed, inSpan, carries, isValue, inMessage}
 use Rattle.publish.specs.Copy.{stays}
 use Rattle.publish.proofs.Runs.{split}
-use Rattle.publish.proofs.Steps.{toldOn}
+use Rattle.reading.proofs.Told.{toldFrom}
+use Rattle.reading.proofs.Untabled.{toldOn}
 
 -- sections that start at an offset or behind it
 abbrev pub From : ℕ → List Section → Type 0
@@ -63,7 +64,7 @@ from-walked room at r (s ∷ more) ending (first, from) =
     by-judgement (passes lines closed next) later = (first, later next)
 
 pub from-told : (file : List ℕ) (r : Reached) (cursor : Cursor) → From (cursor .at .0) (toldOn file r cursor .sections)
-unfolding toldOn listingOn
+unfolding toldFrom listingOn
 from-told file r cursor = from-walked _ (cursor .at .0) r _ _ (from-listing _ file (cursor .at .0) (cursor .rest))
 
 -- nothing is added

@@ -1,91 +1,90 @@
--- The turns of a loop over the machine: they start with what the walk of the file tells, each keeps to that, and each that goes on
--- comes nearer to the end of file. Assumes nothing.
+-- On the way: from what is reached, the walk ends as the whole does.
 use mathlib.Core.Path.{_≡_, refl, sym, ap, subst, _∙_}
-use mathlib.Core.Bool.{true, false}
+use mathlib.Core.Bool.{true}
 use mathlib.Core.List.{List}
-use Prim.Native.Nat.{ℕ, suc, _-_, _≤_, _<_}
+use Prim.Native.Nat.{ℕ, _+_, _≤_, _<_}
 use native.Mathlib.Omega.{arith}
-use lib.Dec.{ltb}
 use lib.ListN.{length}
-use Rattle.octets.specs.Choice.{pick}
+use Rattle.order.specs.Order.{isBetween}
 use Rattle.framing.specs.Framing.{readAt}
 use Rattle.framing.specs.Listing.{Listing, listed}
 use Rattle.framing.specs.declared.read.Section.{Section}
 use Rattle.framing.specs.declared.read.Cursor.{Cursor}
-use Rattle.framing.specs.declared.read.Read.{Read}
-use Rattle.framing.specs.declared.read.Read.the-variants as read
-use Rattle.framing.proofs.Tests.{by-test, never-both}
+use Rattle.framing.specs.Read.{Read}
+use Rattle.framing.specs.Read as read
+use Rattle.framing.proofs.Tests.{by-test}
 use Rattle.framing.proofs.OneRead.{Reads, reads, goes}
-use Rattle.framing.proofs.Listing.{listingOn, listing-next, listing-is}
-use Rattle.order.specs.Order.{isBetween}
-use Rattle.state.specs.State.{unstarted}
-use Rattle.state.specs.declared.refusal.Outcome.{Outcome}
-use Rattle.state.specs.declared.refusal.Outcome.the-variants.{Clean}
-use Rattle.state.specs.declared.walk.Walk.{Walk}
-use Rattle.machine.specs.Machine.{unlimited, startOf}
-use Rattle.meaning.specs.Walk.{Reached, Told, concluded, walkedFrom, walked, atStart}
-use Rattle.meaning.proofs.Judged.{Counted, by-test-2}
+use Rattle.framing.proofs.Listing.{listingOn, listing-next}
+use Rattle.order.specs.declared.Place.{Place}
+use Rattle.framing.specs.declared.read.Offset.{Offset}
+use Rattle.index.specs.Lines.{place}
+use Rattle.index.specs.declared.listed.Listed.{Listed}
+use Rattle.index.specs.declared.refusal.Refusal.{Refusal}
+use Rattle.index.specs.declared.refusal.Outcome.{Outcome}
+use Rattle.index.specs.declared.refusal.Outcome.the-variants.{Clean, Refused}
+use Rattle.index.specs.Bounds.{mostOctets, unlimited}
+use Rattle.index.specs.Walk.{Reached, atStart, Told, concluded, walkedFrom, walked}
+use Rattle.reading.specs.Reading.{reading, start, seen}
+use Rattle.reading.specs.declared.Reading.{Reading}
+use Rattle.reading.specs.declared.Seen.{Seen}
+use Rattle.reading.proofs.Told.{toldFrom}
 use Rattle.publish.proofs.Runs.{split}
-use Rattle.publish.proofs.Steps.{toldOn, told, unclean, Passed, Moves, on, over, off}
+use Rattle.reading.proofs.Untabled.{toldOn, Bounded, Passes, first-told, first-bounded}
 
--- a state on the way: what is still to be told ends as the whole does, and so did the walk if it has ended
-pub record OnWay (whole : Outcome) (file : List ℕ) (w : Walk) : Type 0 where
-  pub counted : w .going ≡ true → Counted w
-  pub going : w .going ≡ true → told file w .outcome ≡ whole
-  pub ended : w .going ≡ false → w .ending .outcome ≡ whole
+-- a refusal is no clean end
+pub unclean : {o : Outcome} {why : Refusal} {at : Place} {offset : Offset} → o ≡ Refused why at offset → o ≡ Clean → ⊥
+unclean e f = let z : _≡_ {A = ℕ} 0 1 = cc in omega arith
 
--- the first state: if the walk goes on, the whole is to be told, from the file's start on
-pub record First (file : List ℕ) (w : Walk) (whole : Told) : Type 0 where
-  pub counted : Counted w
-  pub at : w .cursor .at .0 ≡ 0
-  pub rest : w .cursor .rest ≡ 0
-  pub going : w .going ≡ true → told file w ≡ whole
-  pub ended : w .going ≡ false → w .ending .outcome ≡ whole .outcome
-  pub unended : w .going ≡ false → whole .outcome ≡ Clean → ⊥
+pub record OnWay (whole : Outcome) (file : List ℕ) (at : Reading) : Type 0 where
+  pub r : Reached
+  pub order : r .order ≡ at .order
+  pub bounded : Bounded file r (at .cursor)
+  pub comes : toldOn file r (at .cursor) .outcome ≡ whole
 
-module _ (file : List ℕ) where
-  pub first : First file (startOf (length file)) (walked unlimited file)
-  unfolding startOf walked toldOn
-  first =
-      by-test-2 (First file) (ltb 1099511627776 (length file))
-      (λ long.
-      record {
-        counted = none;
-        at = refl;
-        rest = refl;
-        going = λ e. absurd (never-both e refl);
-        ended = λ e. refl;
-        unended = λ e. unclean refl;
-      })
-      (λ fits.
-      record {
-        counted = none;
-        at = refl;
-        rest = refl;
-        going = λ e. ap (λ (l : Listing). walkedFrom unlimited atStart (l .sections) (l .ending)) (sym (listing-is file));
-        ended = λ e. absurd (never-both refl e);
-        unended = λ e. absurd (never-both refl e);
-      })
-    where
-      none : Counted unstarted
-      none = record { messages = omega arith; submessages = omega arith }
+-- with the count and the section passed last
+pub record Counting (whole : Outcome) (file : List ℕ) (at : Reading) (sections : ℕ) (last : Listed) : Type 0 where
+  pub way : OnWay whole file at
+  pub counted : way .r .sections ≡ sections
+  pub passed : way .r .last ≡ last
 
-  pub first-on-way : OnWay (walked unlimited file .outcome) file (startOf (length file))
+-- what is seen there
+pub sees : {whole : Outcome} {file : List ℕ} {at : Reading} {v : Seen} (way : OnWay whole file at) → seen file at ≡ v
+    → seen file (reading (at .cursor) (way .r .order)) ≡ v
+sees way e = rw (way .order) e
+
+module _ (file : List ℕ) (fits : length file ≤ mostOctets) where
+  pub first-on-way : OnWay (walked unlimited file .outcome) file start
   first-on-way =
       record {
-        counted = λ e. first .counted;
-        going = λ e. ap (λ (t : Told). t .outcome) (first .going e);
-        ended = first .ended;
+        r = atStart;
+        order = refl;
+        bounded = first-bounded file;
+        comes = ap (λ (t : Told). t .outcome) (sym (first-told file fits));
       }
 
-  -- the measure: a turn for each octet left and one more, none once the walk has ended
-  abbrev pub turnsLeft : Walk → ℕ
-  turnsLeft w = pick (w .going) (suc (length file - w .cursor .at .0)) 0
+  pub first-counting : Counting (walked unlimited file .outcome) file start 0 (atStart .last)
+  unfolding first-on-way
+  first-counting = record { way = first-on-way; counted = refl; passed = refl }
+
+  pub on-way : {whole : Outcome} {at next : Reading} {s : Section} (way : OnWay whole file at)
+      → Passes file (way .r) (at .cursor) s next → OnWay whole file next
+  on-way way p = record { r = p .q; order = p .order; bounded = p .bounded; comes = sym (p .outcome) ∙ way .comes }
+
+  pub counting : {whole : Outcome} {at next : Reading} {s : Section} {sections : ℕ} {last : Listed} (c : Counting whole file at sections last)
+      → Passes file (c .way .r) (at .cursor) s next
+      → Counting whole file next (sections + 1) (record { place = place sections; section = s })
+  unfolding on-way
+  counting {s = s} c p =
+      record {
+        way = on-way (c .way) p;
+        counted = p .placed ∙ ap (λ (n : ℕ). n + 1) (c .counted);
+        passed = p .last ∙ ap (λ (n : ℕ). record { place = place n; section = s }) (c .counted);
+      }
 
   -- past the end of file the walk ends, and clean only between messages
   past-end : (r : Reached) (cursor : Cursor) → length file < cursor .at .0 → toldOn file r cursor .outcome ≡ Clean
       → isBetween (r .order) ≡ true
-  unfolding toldOn walkedFrom concluded
+  unfolding toldFrom walkedFrom concluded
   past-end r cursor past clean =
       by-read (readAt file at rest) (reads file at rest)
       (subst (λ (l : Listing). walkedFrom unlimited r (l .sections) (l .ending) .outcome ≡ Clean) (listing-next file at rest) clean)
@@ -105,46 +104,13 @@ module _ (file : List ℕ) where
           (λ inside f. absurd (unclean refl f)) e
       by-read (read.Refused fault offset) is e = absurd (unclean refl e)
 
-  module _ (w v : Walk) where
-    -- so on the way to a clean end a section that is passed lies whole in the file
-    pub whole : {s : Section} → Passed file w v s → told file v .outcome ≡ Clean → v .cursor .at .0 ≤ length file
-    whole {s} p clean =
-        split (length file) (v .cursor .at .0)
-        (λ past.
-        let eight = p .between (past-end _ (v .cursor) past clean) in
-        let common = goes (p .is-read) in
-        omega (arith, common .whole (λ seven. omega arith), common .ends))
-        (λ inside. inside)
-
-    -- a turn keeps to the way, and comes nearer to the end
-    module _ (goes-on : w .going ≡ true) (move : Moves file w v) where
-      pub on-way : {all : Outcome} → OnWay all file w → OnWay all file v
-      on-way {all} way = by-move move
-        where
-          ended : v .going ≡ false → told file w .outcome ≡ v .ending .outcome → OnWay all file v
-          ended stopped so =
-              record {
-                counted = λ e. absurd (never-both e stopped);
-                going = λ e. absurd (never-both e stopped);
-                ended = λ e. sym so ∙ way .going goes-on;
-              }
-
-          by-move : Moves file w v → OnWay all file v
-          by-move (on p) =
-              record {
-                counted = λ e. p .counted;
-                going = λ e. sym (p .outcome) ∙ way .going goes-on;
-                ended = λ e. absurd (never-both (p .goes-on) e);
-              }
-          by-move (over o) = ended (o .ended) (o .outcome)
-          by-move (off o) = ended (o .ended) (o .outcome)
-
-      pub falls : turnsLeft v < turnsLeft w
-      falls = by-move move
-        where
-          by-move : Moves file w v → turnsLeft v < turnsLeft w
-          by-move (on p) =
-              let common = goes (p .is-read) in
-              rw (goes-on, p .goes-on) (omega arith)
-          by-move (over o) = rw (goes-on, o .ended) (omega arith)
-          by-move (off o) = rw (goes-on, o .ended) (omega arith)
+  -- so on the way to a clean end a section that is passed lies whole in the file
+  pub whole : {r : Reached} {cursor : Cursor} {s : Section} {next : Reading} → Passes file r cursor s next
+      → toldOn file r cursor .outcome ≡ Clean → next .cursor .at .0 ≤ length file
+  whole {next = next} p clean =
+      split (length file) (next .cursor .at .0)
+      (λ past.
+      let eight = p .between (rw (← p .order) (past-end (p .q) (next .cursor) past (sym (p .outcome) ∙ clean))) in
+      let common = goes (p .is-read) in
+      omega (arith, common .whole (λ seven. omega arith), common .ends))
+      (λ inside. inside)

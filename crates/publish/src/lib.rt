@@ -6,29 +6,33 @@ ghost use mathlib.Core.Bool.{true, false};
 ghost use Prim.Native.Nat.{ℕ, _≤_, _<_};
 ghost use lib.Dec.{leb};
 ghost use lib.ListN.{length, drop};
-ghost use Rattle.machine.specs.Machine.{unlimited};
-ghost use Rattle.meaning.specs.Walk.{walked};
+ghost use Rattle.index.specs.Bounds.{mostOctets, unlimited};
+ghost use Rattle.index.specs.Walk.{atStart, walked};
 ghost use Rattle.publish.specs.Values.{licensed, inStretch};
 ghost use Rattle.publish.specs.Copy.{publicCopy, copyOf};
 ghost use Rattle.publish.specs.End.{copyEnd};
 ghost use Rattle.publish.specs.Runs.{Wrote, zeros, octetsOf, ToWrite, WroteSection};
-ghost use Rattle.state.specs.declared.refusal.Outcome.the-variants.{Clean};
+ghost use Rattle.publish.specs.Passed.{passedBy};
+ghost use Rattle.reading.specs.Reading.{seen};
+ghost use Rattle.index.specs.declared.refusal.Outcome.the-variants.{Clean, Refused};
 use framing::Offset;
 use framing::Section;
-use machine::MOST_OCTETS;
-use machine::advance;
-use machine::start;
-use machine::unlimited;
-use numbers::StoreEnd;
-use numbers::end_of;
-use numbers::stored;
-use numbers::unplaced;
+use index::Listed;
+use index::MOST_OCTETS;
+use index::Outcome;
+use index::Refusal;
+use index::StoreEnd;
+use index::end_of;
+use index::stored;
+use index::unlisted;
+use index::unplaced;
 use order::Place;
+use reading::Reading;
+use reading::Seen;
+use reading::look;
+use reading::start;
 use sections::Values;
 use sections::values_of;
-use state::Listed;
-use state::Outcome;
-use state::Refusal;
 
 // What a call answers.
 pub enum Published {
@@ -42,17 +46,64 @@ pub enum Published {
     Refused(Refusal, Place, Offset),
 }
 
+// The section just read is refused.
+fn refused(why: Refusal, place: u64, section: Section) -> Outcome
+    ensures { λ r. ⌜ r ≡ Refused why (record { 0 = place }) (section .offset) ⌝ }
+{
+    let offset = section.offset;
+    Outcome::Refused(why, Place(place), offset)
+}
+
 // How the walk of a file ends, with no table.
 fn outcome_of(file: &[u8]) -> Outcome
+    requires { ⌜ length (now file) ≤ mostOctets ⌝ }
     ensures { λ r. ⌜ r ≡ walked unlimited (now (file .entry)) .outcome ⌝ }
 {
-    let room = unlimited();
-    let mut w = start(file.len() as u64);
-    while w.going {
-        w = advance(file, room, w);
+    let mut reading = start();
+    let mut place: u64 = 0;
+    let mut last = unlisted();
+    loop {
+        let seen = look(file, reading);
+        match seen {
+            Seen::Passes(section, next) => {
+                last = Listed {
+                    place: Place(place),
+                    section,
+                };
+                place += 1;
+                reading = next;
+            }
+            Seen::Closes(section, next) => {
+                last = Listed {
+                    place: Place(place),
+                    section,
+                };
+                place += 1;
+                reading = next;
+            }
+            Seen::Misplaced(section) => return refused(
+                Refusal::Misplaced(section.number),
+                place,
+                section,
+            ),
+            Seen::NoGrid(section) => return refused(
+                Refusal::NoGrid(section.number),
+                place,
+                section,
+            ),
+            Seen::Clean => return Outcome::Clean,
+            Seen::InputOver => {
+                let at = last.place;
+                let section = last.section;
+                return refused(Refusal::InputOver, at.0, section);
+            }
+            Seen::Unreadable(fault, offset) => return Outcome::Refused(
+                Refusal::Unreadable(fault),
+                Place(place),
+                offset,
+            ),
+        }
     }
-    let ending = w.ending;
-    ending.outcome
 }
 
 // Sets octets to zero, from one index up to another.
@@ -110,34 +161,50 @@ fn put_section(file: &[u8], dest: &mut [u8], done: usize, s: Section)
     blank(dest, values, from + octets);
 }
 
-// The same, if the section was passed.
-fn put_passed(file: &[u8], dest: &mut [u8], done: usize, passed: bool, s: Listed)
-    requires { ⌜ (passed ≡ true → ToWrite done (s .section) (length (now file)) (length (now dest))) ⌝ }
-    ensures passed { λ _. ⌜ (passed ≡ true → WroteSection (now (file .entry)) done (s .section) (now (dest .entry)) (now (dest .exit))) ⌝ }
-    ensures unpassed { λ _. ⌜ (passed ≡ false → now (dest .exit) ≡ now (dest .entry)) ⌝ }
+// A section that is passed, and where to read on.
+enum Passed {
+    Section(Section, Reading),
+    Ended,
+}
+
+fn passed_at(file: &[u8], reading: Reading) -> Passed
+    ensures { λ r. ⌜ r ≡ passedBy (seen (now (file .entry)) reading) ⌝ }
 {
-    if passed {
-        let section = s.section;
-        put_section(file, dest, done, section);
+    let seen = look(file, reading);
+    match seen {
+        Seen::Passes(section, next) => Passed::Section(section, next),
+        Seen::Closes(section, next) => Passed::Section(section, next),
+        Seen::Misplaced(_) => Passed::Ended,
+        Seen::NoGrid(_) => Passed::Ended,
+        Seen::Clean => Passed::Ended,
+        Seen::InputOver => Passed::Ended,
+        Seen::Unreadable(_, _) => Passed::Ended,
     }
 }
 
 // Writes the public copy of a file that walks clean.
 fn put_copy(file: &[u8], dest: &mut [u8])
-    requires { ⌜ (walked unlimited (now file) .outcome ≡ Clean) × (length (now file) ≤ length (now dest)) ⌝ }
+    requires { ⌜ (length (now file) ≤ mostOctets) × (walked unlimited (now file) .outcome ≡ Clean) × (length (now file) ≤ length (now dest)) ⌝ }
     ensures { λ _. ⌜ now (dest .exit) ≡ publicCopy licensed (now (file .entry)) ++ drop (length (now (file .entry))) (now (dest .entry)) ⌝ }
 {
-    let room = unlimited();
-    let mut w = start(file.len() as u64);
+    let mut reading = start();
     let mut done: usize = 0;
-    while w.going {
-        w = advance(file, room, w);
-        put_passed(file, dest, done, w.passed, w.last);
-        let cursor = w.cursor;
-        let at = cursor.at;
-        done = at.0 as usize;
+    loop {
+        let passed = passed_at(file, reading);
+        match passed {
+            Passed::Section(section, next) => {
+                put_section(file, dest, done, section);
+                let cursor = next.cursor;
+                let at = cursor.at;
+                done = at.0 as usize;
+                reading = next;
+            }
+            Passed::Ended => {
+                blank(dest, done, file.len());
+                return;
+            }
+        }
     }
-    blank(dest, done, file.len());
 }
 
 // The public copy: 1, 19, then the walk's refusals.

@@ -1,5 +1,5 @@
 -- The calls of a pull reader hand out what `Pull` says: the sections of the walk with unlimited tables, its refusal once, and then
--- "ended" for ever. Assumes nothing.
+-- "ended" for ever.
 use mathlib.Core.Path.{_≡_, refl, sym, ap, _∙_}
 use mathlib.Core.Bool.{Bool, true, false}
 use mathlib.Core.List.{List, [], _∷_}
@@ -7,39 +7,32 @@ use Prim.Native.Nat.{ℕ, zero, suc, _+_, _≤_, _<_}
 use native.Mathlib.Omega.{arith}
 use lib.Dec.{ltb}
 use lib.ListN.{length}
-use Rattle.octets.specs.Choice.{pick}
-use Rattle.order.specs.Order.{isBetween}
+use borrow.Author.Tests.{lt-ltb, le-ltb, ltb-false}
 use Rattle.order.specs.declared.Place.{Place}
-use Rattle.framing.specs.Framing.{readAt}
-use Rattle.framing.specs.Listing.{listed}
 use Rattle.framing.specs.declared.read.Offset.{Offset}
 use Rattle.framing.specs.declared.read.Section.{Section}
-use Rattle.framing.specs.declared.read.Cursor.{Cursor}
-use Rattle.framing.specs.declared.read.Read.{Read}
-use Rattle.framing.specs.declared.read.Read.the-variants as read
-use Rattle.framing.proofs.Listing.{listingOn, listing-next, listing-is}
-use Rattle.lines.specs.Lines.{place}
-use Rattle.state.specs.State.{unstarted, afresh, refuse}
-use Rattle.state.specs.declared.refusal.Refusal.{Refusal}
-use Rattle.state.specs.declared.refusal.Refusal.the-variants as refusal
-use Rattle.state.specs.declared.refusal.Outcome.{Outcome}
-use Rattle.state.specs.declared.refusal.Outcome.the-variants as outcome
-use Rattle.state.specs.declared.walk.Walk.{Walk}
-use Rattle.machine.specs.Machine.{unlimited, byRead, overOf, takenOf, advanceOf, startOf}
-use Rattle.meaning.specs.Walk.{Reached, Judgement, stops, passes, judgement, Told, ends, concluded, followed, walkedFrom, walked}
-use Rattle.meaning.proofs.Judged.{reached, Counted, Lent, Does, by-test-2, taken-does}
+use Rattle.index.specs.Lines.{place}
+use Rattle.index.specs.declared.refusal.Refusal.{Refusal}
+use Rattle.index.specs.declared.refusal.Refusal.the-variants as refusal
+use Rattle.index.specs.declared.refusal.Outcome.{Outcome}
+use Rattle.index.specs.declared.refusal.Outcome.the-variants as outcome
+use Rattle.index.specs.Bounds.{mostOctets, unlimited}
+use Rattle.index.specs.Walk.{Reached, atStart, walked}
+use Rattle.reading.specs.Reading.{reading, start, seen}
+use Rattle.reading.specs.declared.Reading.{Reading}
+use Rattle.reading.specs.declared.Seen.{Seen}
+use Rattle.reading.specs.declared.Seen.the-variants as seen
+use Rattle.reading.proofs.Told.{told-start}
+use Rattle.reading.proofs.Untabled as steps
+use Rattle.reading.proofs.Untabled.{toldOn, Bounded, Passes, Ends, first-told, first-bounded}
 use Rattle.pull.specs.declared.Pulled.{Pulled}
-use Rattle.pull.specs.declared.Pulled.the-variants.{Passed, Refused, Ended}
+use Rattle.pull.specs.declared.Pulled.the-variants.{Refused, Ended}
 use Rattle.pull.specs.declared.Progress.{Progress}
 use Rattle.pull.specs.declared.Pull.{Pull}
-use Rattle.pull.specs.Calls.{firstOf, furtherOf, endOf, handOf, pullAt, afterCalls}
+use Rattle.pull.specs.Calls.{firstOf, further, handedOut, stopped, pullBy, pullAt, afterCalls}
 use Rattle.pull.specs.Pull.{endsWith, handsOut, pulled}
 
 -- ---- calls
-
--- a walk whose end is not told yet
-abbrev begun : Walk → Progress
-begun w = record { walk = w; over = false }
 
 -- the progress after so many calls, from a progress on
 abbrev callsFrom : ℕ → List ℕ → Progress → Progress
@@ -61,179 +54,147 @@ unfolding afterCalls
 calls-are zero file = refl
 calls-are (suc call) file = ap (λ (p : Progress). pullAt file p .next) (calls-are call file) ∙ sym (one-later call file (firstOf file))
 
--- a call where the walk goes on, and one where it has ended
-one-call : (file : List ℕ) (w : Walk) → w .going ≡ true → pullAt file (begun w) ≡ handOf (advanceOf file unlimited w)
-unfolding pullAt furtherOf
-one-call file w e = ap (λ (t : Bool). handOf (pick t (advanceOf file unlimited w) w)) e
-
-last-call : (file : List ℕ) (w : Walk) → w .going ≡ false → pullAt file (begun w) ≡ handOf w
-unfolding pullAt furtherOf
-last-call file w e = ap (λ (t : Bool). handOf (pick t (advanceOf file unlimited w) w)) e
-
--- a passed section is handed out, and an end is told
-hand-passed : (w : Walk) → w .passed ≡ true → handOf w ≡ record { answer = Passed (w .last); next = begun w }
-unfolding handOf
-hand-passed w e = rw e
-
-hand-end : (w : Walk) → w .passed ≡ false
-    → handOf w ≡ record { answer = endOf (w .ending .outcome); next = record { walk = w; over = true } }
-unfolding handOf
-hand-end w e = rw e
-
 -- once the end is told, every call answers that
-over-stays : (call : ℕ) (file : List ℕ) (w : Walk) → answerAt call file (record { walk = w; over = true }) ≡ Ended
+over-stays : (call : ℕ) (file : List ℕ) (p : Progress) → p .over ≡ true → answerAt call file p ≡ Ended
 unfolding pullAt
-over-stays zero file w = refl
-over-stays (suc call) file w = over-stays call file w
+over-stays zero file p e = rw e
+over-stays (suc call) file p e = over-stays call file (pullAt file p .next) (rw e)
 
--- a call at the end, and those after it
-end-told : (call : ℕ) (file : List ℕ) (p : Progress) (w : Walk) → pullAt file p ≡ handOf w → w .passed ≡ false
-    → answerAt call file p ≡ endsWith (w .ending .outcome) call
-unfolding endOf endsWith
-end-told zero file p w q e = ap (λ (r : Pull). r .answer) (q ∙ hand-end w e) ∙ first-told (w .ending .outcome)
-  where
-    first-told : (o : Outcome) → endOf o ≡ endsWith o 0
-    first-told outcome.Clean = refl
-    first-told (outcome.Refused why at offset) = refl
-end-told (suc call) file p w q e =
-    ap (λ (r : Pull). answerAt call file (r .next)) (q ∙ hand-end w e) ∙ over-stays call file w ∙ then-ended (w .ending .outcome)
-  where
-    then-ended : (o : Outcome) → Ended ≡ endsWith o (suc call)
-    then-ended outcome.Clean = refl
-    then-ended (outcome.Refused why at offset) = refl
+-- how an outcome is told at first
+abbrev endOf : Outcome → Pulled
+endOf outcome.Clean = Ended
+endOf (outcome.Refused why at offset) = Refused why at offset
 
--- ---- steps
-
--- what the walk tells from a state on
-abbrev toldFrom : List ℕ → Walk → Told
-toldFrom file w =
-    let rest = listingOn file (w .cursor .at .0) (w .cursor .rest) in
-    walkedFrom unlimited (reached w) (rest .sections) (rest .ending)
-
--- a step to this state ends the walk
-record Stopped (w : Walk) (told : Told) : Type 0 where
-  unpassed : w .passed ≡ false
-  none : told .sections ≡ []
-  outcome : w .ending .outcome ≡ told .outcome
-
--- it passes a section at this place, and the walk goes on
-record Went (file : List ℕ) (at : ℕ) (w : Walk) (told : Told) : Type 0 where
-  section : Section
-  passed : w .passed ≡ true
-  last : w .last ≡ record { place = place at; section = section }
-  going : w .going ≡ true
-  counted : Counted w
-  next : w .place .0 ≡ at + 1
-  sections : told .sections ≡ section ∷ toldFrom file w .sections
-  outcome : told .outcome ≡ toldFrom file w .outcome
-
-data Stepped (file : List ℕ) (at : ℕ) (w : Walk) (told : Told) : Type 0 where
-  stopped : Stopped w told → Stepped file at w told
-  went : Went file at w told → Stepped file at w told
-
-lent : Lent unlimited
-lent = record { rows = omega arith; lines = omega arith }
-
--- by what is read at the cursor
-by-read : (file : List ℕ) (w : Walk) (next : Read) → w .going ≡ true → Counted w
-    → Stepped file (w .place .0) (byRead next unlimited (afresh w))
-    (walkedFrom unlimited (reached w) (listed next (listingOn file) .sections) (listed next (listingOn file) .ending))
-unfolding byRead walkedFrom overOf concluded
-by-read file w (read.Section s cursor) going counted =
-    by-judgement (judgement unlimited (reached w) s) (taken-does unlimited lent (w .lines) s cursor w going counted refl)
-  where
-    after : Walk
-    after = takenOf unlimited (afresh w) (record { place = w .place; section = s }) cursor
-
-    rest : Reached → Cursor → Told
-    rest r c = walkedFrom unlimited r (listingOn file (c .at .0) (c .rest) .sections) (listingOn file (c .at .0) (c .rest) .ending)
-
-    by-judgement : (j : Judgement) → Does unlimited (w .place) (w .standing .force .message) (w .lines) s cursor after j
-        → Stepped file (w .place .0) after (followed (reached w) s j (λ r. rest r cursor))
-    by-judgement (stops lines why) (lined, stop) =
-        stopped (record { unpassed = stop .unpassed; none = refl; outcome = stop .because })
-    by-judgement (passes lines closed r) (lined, pass) =
-        let same : rest r cursor ≡ toldFrom file after =
-        ap (λ (q : Reached). rest q cursor) (sym (pass .arrived)) ∙ ap (rest (reached after)) (sym (pass .next)) in
-        went
-        (record {
-          section = s;
-          passed = pass .passed;
-          last = pass .last;
-          going = pass .going;
-          counted = pass .counted;
-          next = pass .place;
-          sections = ap (λ (t : Told). s ∷ t .sections) same;
-          outcome = ap (λ (t : Told). t .outcome) same;
-        })
-by-read file w read.Over going counted =
-    by-test-2 (λ (v : Walk) (o : Outcome). Stepped file (w .place .0) v (ends o)) (isBetween (w .standing .order))
-    (λ e. stopped (record { unpassed = refl; none = refl; outcome = refl }))
-    (λ e. stopped (record { unpassed = refl; none = refl; outcome = refl }))
-by-read file w (read.Refused fault offset) going counted = stopped (record { unpassed = refl; none = refl; outcome = refl })
-
-steps : (file : List ℕ) (w : Walk) → w .going ≡ true → Counted w
-    → Stepped file (w .place .0) (advanceOf file unlimited w) (toldFrom file w)
-unfolding advanceOf
-steps file w going counted =
-    rw (listing-next file (w .cursor .at .0) (w .cursor .rest))
-    (by-read file w (readAt file (w .cursor .at .0) (w .cursor .rest)) going counted)
+-- a call that tells the end, and those after it
+end-told : (call : ℕ) (file : List ℕ) (p : Progress) (o : Outcome) → pullAt file p ≡ stopped p (endOf o)
+    → answerAt call file p ≡ endsWith o call
+unfolding endsWith
+end-told zero file p outcome.Clean q = ap (λ (r : Pull). r .answer) q
+end-told zero file p (outcome.Refused why at offset) q = ap (λ (r : Pull). r .answer) q
+end-told (suc call) file p outcome.Clean q = over-stays call file (pullAt file p .next) (rw q refl)
+end-told (suc call) file p (outcome.Refused why at offset) q = over-stays call file (pullAt file p .next) (rw q refl)
 
 -- ---- the sequence
 
--- the calls from a state on hand out what the walk tells from it on
-abbrev Hands : ℕ → List ℕ → Walk → Type 0
-Hands call file w =
-    let told = toldFrom file w in
-    answerAt call file (begun w) ≡ handsOut (w .place .0) (told .sections) (told .outcome) call
+-- the reading stands where the walk does that has reached r
+record Stands (file : List ℕ) (p : Progress) : Type 0 where
+  r : Reached
+  order : r .order ≡ p .reading .order
+  bounded : Bounded file r (p .reading .cursor)
+  counted : r .sections ≡ p .place .0
+  last : r .last ≡ p .last
+  going : p .over ≡ false
 
--- as far as a call later than the first asks
-abbrev Earlier : ℕ → List ℕ → Type 0
-Earlier zero file = Unit {0}
-Earlier (suc call) file = (w : Walk) → w .going ≡ true → Counted w → Hands call file w
+-- a file that isn't too long
+module _ (file : List ℕ) (fits : length file ≤ mostOctets) where
+  -- the calls from here on hand out what the walk tells from here on
+  abbrev Hands : ℕ → (p : Progress) → Stands file p → Type 0
+  Hands call p st =
+      let told = toldOn file (st .r) (p .reading .cursor) in
+      answerAt call file p ≡ handsOut (p .place .0) (told .sections) (told .outcome) call
 
-by-step : (call : ℕ) (file : List ℕ) (at : ℕ) (p : Progress) (w : Walk) (told : Told) → pullAt file p ≡ handOf w
-    → Stepped file at w told → Earlier call file → answerAt call file p ≡ handsOut at (told .sections) (told .outcome) call
+  -- as far as a call later than the first asks
+  abbrev Earlier : ℕ → Type 0
+  Earlier zero = Unit {0}
+  Earlier (suc call) = (p : Progress) (st : Stands file p) → Hands call p st
+
+  module _ (call : ℕ) (p : Progress) (st : Stands file p) (again : Earlier call) where
+    -- one call, by what is seen
+    one-call : pullAt file p ≡ pullBy p (seen file (p .reading))
+    unfolding pullAt
+    one-call = rw (st .going, le-ltb mostOctets (length file) fits)
+
+    ended : (o : Outcome) → Ends (toldOn file (st .r) (p .reading .cursor)) o → pullAt file p ≡ stopped p (endOf o) → Hands call p st
+    unfolding handsOut
+    ended o e q = end-told call file p o q ∙ rw (e .none, e .outcome)
+
+    on : further (p .place) ≡ place (p .place .0 + 1)
+    unfolding further
+    on = rw (lt-ltb (p .place .0) 18446744073709551615 (omega (arith, st .counted, st .bounded .inside, fits)))
+
+    passed : (s : Section) (next : Reading) → Passes file (st .r) (p .reading .cursor) s next
+        → pullAt file p ≡ handedOut (p .place) s next → Hands call p st
+    unfolding handsOut
+    passed s next g q = by-call call again
+      where
+        after : Progress
+        after = record { reading = next; place = place (p .place .0 + 1); last = record { place = p .place; section = s }; over = false }
+
+        goes : pullAt file p .next ≡ after
+        goes = ap (λ (r : Pull). r .next) q ∙ ap (λ (at : Place). record { reading = next; place = at; last = record { place = p .place; section = s }; over = false }) on
+
+        there : Stands file after
+        there =
+            record {
+              r = g .q;
+              order = g .order;
+              bounded = g .bounded;
+              counted = g .placed ∙ ap (λ (n : ℕ). n + 1) (st .counted);
+              last = g .last ∙ ap (λ (n : ℕ). record { place = place n; section = s }) (st .counted);
+              going = refl;
+            }
+
+        by-call : (call : ℕ) → Earlier call → Hands call p st
+        by-call zero again = ap (λ (r : Pull). r .answer) q ∙ rw (g .sections)
+        by-call (suc call) again =
+            ap (λ (n : Progress). answerAt call file n) goes ∙ again after there ∙ rw (g .sections, g .outcome)
+
+    -- what is seen where the walk stands
+    sees : {v : Seen} → seen file (p .reading) ≡ v → seen file (reading (p .reading .cursor) (st .r .order)) ≡ v
+    sees e = rw (st .order) e
+
+    by-seen : (v : Seen) → seen file (p .reading) ≡ v → pullAt file p ≡ pullBy p v → Hands call p st
+    unfolding pullBy
+    by-seen (seen.Passes s next) e q = passed s next (steps.passes file fits (st .r) (p .reading .cursor) (st .bounded) (sees e)) q
+    by-seen (seen.Closes s next) e q = passed s next (steps.closes file fits (st .r) (p .reading .cursor) (st .bounded) (sees e)) q
+    by-seen (seen.Misplaced s) e q =
+        ended _ (steps.misplaced file fits (st .r) (p .reading .cursor) (st .bounded) (sees e)) (q ∙ rw (st .counted))
+    by-seen (seen.NoGrid s) e q =
+        ended _ (steps.no-grid file fits (st .r) (p .reading .cursor) (st .bounded) (sees e)) (q ∙ rw (st .counted))
+    by-seen seen.Clean e q = ended _ (steps.clean file fits (st .r) (p .reading .cursor) (st .bounded) (sees e)) q
+    by-seen seen.InputOver e q =
+        ended _ (steps.input-over file fits (st .r) (p .reading .cursor) (st .bounded) (sees e)) (q ∙ rw (st .last))
+    by-seen (seen.Unreadable fault offset) e q =
+        ended _ (steps.unreadable file fits (st .r) (p .reading .cursor) (st .bounded) (sees e)) (q ∙ rw (st .counted))
+
+  hands-from : (call : ℕ) (p : Progress) (st : Stands file p) → Hands call p st
+  hands-from zero p st = by-seen zero p st tt (seen file (p .reading)) refl (one-call zero p st tt)
+  hands-from (suc call) p st = by-seen (suc call) p st (hands-from call) (seen file (p .reading)) refl (one-call (suc call) p st (hands-from call))
+
+-- ---- from a file's start on
+
+-- a file that is too long
+too-long : (file : List ℕ) → ltb mostOctets (length file) ≡ true
+    → pullAt file (firstOf file) ≡ stopped (firstOf file) (Refused refusal.FileTooLong (place 0) (record { 0 = 0 }))
+unfolding pullAt firstOf
+too-long file e = rw e
+
+refused-first : (file : List ℕ) (call : ℕ) → ltb mostOctets (length file) ≡ true
+    → answerAt call file (firstOf file) ≡ handsOut 0 (walked unlimited file .sections) (walked unlimited file .outcome) call
 unfolding handsOut
-by-step call file at p w told q (stopped s) again =
-    end-told call file p w q (s .unpassed)
-    ∙ ap (λ (o : Outcome). endsWith o call) (s .outcome)
-    ∙ ap (λ (l : List Section). handsOut at l (told .outcome) call) (sym (s .none))
-by-step zero file at p w told q (went g) again =
-    ap (λ (r : Pull). r .answer) (q ∙ hand-passed w (g .passed))
-    ∙ ap Passed (g .last)
-    ∙ ap (λ (l : List Section). handsOut at l (told .outcome) 0) (sym (g .sections))
-by-step (suc call) file at p w told q (went g) again =
-    ap (λ (r : Pull). answerAt call file (r .next)) (q ∙ hand-passed w (g .passed))
-    ∙ again w (g .going) (g .counted)
-    ∙ ap (λ (n : ℕ). handsOut n (toldFrom file w .sections) (toldFrom file w .outcome) call) (g .next)
-    ∙ ap (λ (o : Outcome). handsOut (at + 1) (toldFrom file w .sections) o call) (sym (g .outcome))
-    ∙ ap (λ (l : List Section). handsOut at l (told .outcome) (suc call)) (sym (g .sections))
+refused-first file call e =
+    end-told call file (firstOf file) (outcome.Refused refusal.FileTooLong (place 0) (record { 0 = 0 })) (too-long file e)
+    ∙ rw (told-start file unlimited, e)
 
-hands-from : (call : ℕ) (file : List ℕ) (w : Walk) → w .going ≡ true → Counted w → Hands call file w
-hands-from zero file w going counted =
-    by-step zero file _ (begun w) _ _ (one-call file w going) (steps file w going counted) tt
-hands-from (suc call) file w going counted =
-    by-step (suc call) file _ (begun w) _ _ (one-call file w going) (steps file w going counted) (hands-from call file)
+-- one that isn't
+at-first : (file : List ℕ) → Stands file (firstOf file)
+unfolding firstOf
+at-first file = record { r = atStart; order = refl; bounded = first-bounded file; counted = refl; last = refl; going = refl }
 
--- from a file's start on, each call hands out what `Pull` says
+handed-first : (file : List ℕ) (call : ℕ) → length file ≤ mostOctets
+    → answerAt call file (firstOf file) ≡ handsOut 0 (walked unlimited file .sections) (walked unlimited file .outcome) call
+unfolding firstOf at-first
+handed-first file call fits = hands-from file fits call (firstOf file) (at-first file) ∙ rw (first-told file fits)
+
+-- each call hands out what `Pull` says
 pub sequence : (file : List ℕ) → (call : ℕ) → pullAt file (afterCalls call file) .answer ≡ pulled file call
-unfolding firstOf startOf walked handsOut pulled
-sequence file call = ap (λ (p : Progress). pullAt file p .answer) (calls-are call file) ∙ from-start
+unfolding pulled
+sequence file call = ap (λ (p : Progress). pullAt file p .answer) (calls-are call file) ∙ by-length (ltb mostOctets (length file)) refl
   where
-    Given : Walk → Told → Type 0
-    Given w told = answerAt call file (begun w) ≡ handsOut 0 (told .sections) (told .outcome) call
-
-    too-long : Walk
-    too-long = refuse unstarted refusal.FileTooLong (place 0) (record { 0 = 0 })
-
-    too-long-told : Given too-long (ends (outcome.Refused refusal.FileTooLong (place 0) (record { 0 = 0 })))
-    too-long-told = end-told call file (begun too-long) too-long (last-call file too-long refl) refl
-
-    from-start : answerAt call file (firstOf file) ≡ handsOut 0 (walked unlimited file .sections) (walked unlimited file .outcome) call
-    from-start =
-        by-test-2 Given (ltb 1099511627776 (length file)) (λ e. too-long-told) (λ e.
-        rw (listing-is file) (hands-from call file unstarted refl (record { messages = omega arith; submessages = omega arith })))
+    by-length : (t : Bool) → ltb mostOctets (length file) ≡ t
+        → answerAt call file (firstOf file) ≡ handsOut 0 (walked unlimited file .sections) (walked unlimited file .outcome) call
+    by-length true e = refused-first file call e
+    by-length false e = handed-first file call (ltb-false mostOctets (length file) e)
 
 -- ---- after the end
 

@@ -1,16 +1,19 @@
-// The pull reader (document 01, "Order"; the crate's Grib2SectionStream): a struct that keeps the lent file and the walk's
-// state together, and hands out one passed section a call. `first` and `pull_at` are the same over plain parameters.
+// The pull reader (document 01, "Order"; the crate's Grib2SectionStream): a struct that keeps the lent file and the
+// place of its reading together, and hands out one passed section a call. `first` and `pull_at` are the same over plain parameters.
 ghost use mathlib.Core.Path.{_≡_};
-ghost use Rattle.pull.specs.Calls.{firstOf, furtherOf, endOf, handOf, pullAt};
+ghost use Rattle.pull.specs.Calls.{firstOf, further, handedOut, stopped, pullAt};
+ghost use Rattle.pull.specs.declared.Pulled.the-variants.{Refused};
 use framing::Offset;
-use machine::advance;
-use machine::start;
-use machine::unlimited;
+use framing::Section;
+use index::Listed;
+use index::MOST_OCTETS;
+use index::Refusal;
+use index::unlisted;
 use order::Place;
-use state::Listed;
-use state::Outcome;
-use state::Refusal;
-use state::Walk;
+use reading::Reading;
+use reading::Seen;
+use reading::look;
+use reading::start;
 
 // What a call hands out.
 pub enum Pulled {
@@ -20,9 +23,11 @@ pub enum Pulled {
     Ended,
 }
 
-// Where the reading stands, and whether its end was told.
+// Where the reading stands: the place of the section that is read next, the section passed last, and whether the end was told.
 pub struct Progress {
-    pub walk: Walk,
+    pub reading: Reading,
+    pub place: Place,
+    pub last: Listed,
     pub over: bool,
 }
 
@@ -42,54 +47,65 @@ pub fn first(file: &[u8]) -> Progress
     ensures { λ r. ⌜ r ≡ firstOf (now (file .entry)) ⌝ }
 {
     Progress {
-        walk: start(file.len() as u64),
+        reading: start(),
+        place: Place(0),
+        last: unlisted(),
         over: false,
     }
 }
 
-// The walk one step further, where it goes on.
-fn further(file: &[u8], w: Walk) -> Walk
-    ensures { λ r. ⌜ r ≡ furtherOf (now (file .entry)) w ⌝ }
+// The place behind this one.
+fn further(place: Place) -> Place
+    ensures { λ r. ⌜ r ≡ further place ⌝ }
 {
-    if w.going {
-        return advance(file, unlimited(), w);
+    if place.0 < u64::MAX {
+        return Place(place.0 + 1);
     }
-    w
+    place
 }
 
-// How an ended walk is told.
-fn end_of(outcome: Outcome) -> Pulled
-    ensures { λ r. ⌜ r ≡ endOf outcome ⌝ }
+// A section is handed out, and the next is read behind it.
+fn hand_out(place: Place, section: Section, reading: Reading) -> Pull
+    ensures { λ r. ⌜ r ≡ handedOut place section reading ⌝ }
 {
-    match outcome {
-        Outcome::Clean => Pulled::Ended,
-        Outcome::Refused(why, place, offset) => Pulled::Refused(why, place, offset),
-    }
-}
-
-// A section that was passed, else the end.
-fn hand(w: Walk) -> Pull
-    ensures { λ r. ⌜ r ≡ handOf w ⌝ }
-{
-    if w.passed {
-        let last = w.last;
-        return Pull {
-            answer: Pulled::Passed(last),
-            next: Progress {
-                walk: w,
-                over: false,
-            },
-        };
-    }
-    let ending = w.ending;
-    let outcome = ending.outcome;
+    let last = Listed { place, section };
     Pull {
-        answer: end_of(outcome),
+        answer: Pulled::Passed(last),
         next: Progress {
-            walk: w,
+            reading,
+            place: further(place),
+            last,
+            over: false,
+        },
+    }
+}
+
+// The end is told, once.
+fn stop(progress: Progress, answer: Pulled) -> Pull
+    ensures { λ r. ⌜ r ≡ stopped progress answer ⌝ }
+{
+    let reading = progress.reading;
+    let place = progress.place;
+    let last = progress.last;
+    Pull {
+        answer,
+        next: Progress {
+            reading,
+            place,
+            last,
             over: true,
         },
     }
+}
+
+// It is the refusal of a section.
+fn refuse(progress: Progress, why: Refusal, at: Listed) -> Pull
+    ensures { λ r. ⌜ r ≡ stopped progress (Refused why (at .place) (at .section .offset)) ⌝ }
+{
+    let place = at.place;
+    let section = at.section;
+    let offset = section.offset;
+    stop(progress, Pulled::Refused(why, place, offset))
 }
 
 // One call, over plain parameters.
@@ -102,8 +118,36 @@ pub fn pull_at(file: &[u8], progress: Progress) -> Pull
             next: progress,
         };
     }
-    let walk = progress.walk;
-    hand(further(file, walk))
+    if MOST_OCTETS < file.len() as u64 {
+        return stop(
+            progress,
+            Pulled::Refused(Refusal::FileTooLong, Place(0), Offset(0)),
+        );
+    }
+    let reading = progress.reading;
+    let place = progress.place;
+    let last = progress.last;
+    let seen = look(file, reading);
+    match seen {
+        Seen::Passes(section, next) => hand_out(place, section, next),
+        Seen::Closes(section, next) => hand_out(place, section, next),
+        Seen::Misplaced(section) => refuse(
+            progress,
+            Refusal::Misplaced(section.number),
+            Listed { place, section },
+        ),
+        Seen::NoGrid(section) => refuse(
+            progress,
+            Refusal::NoGrid(section.number),
+            Listed { place, section },
+        ),
+        Seen::Clean => stop(progress, Pulled::Ended),
+        Seen::InputOver => refuse(progress, Refusal::InputOver, last),
+        Seen::Unreadable(fault, offset) => stop(
+            progress,
+            Pulled::Refused(Refusal::Unreadable(fault), place, offset),
+        ),
+    }
 }
 
 // A reader at the start of a file.

@@ -1,4 +1,4 @@
-// `replay` over the stored list of the crate's own answers (tests/oracle).
+// `replay` over the stored list of the crate's own answers (tests/oracle), and last a request of no known kind.
 fn main() {
-    replaying::run();
+    replaying::answer_requests();
 }

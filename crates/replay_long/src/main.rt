@@ -1,4 +1,4 @@
 // `replay` over a stored input of one octet too many.
 fn main() {
-    replaying::run();
+    replaying::answer_requests();
 }

@@ -1,4 +1,5 @@
-// `replay` over the stored list of walks, of walks whose tables fill, and of pulls.
+// `replay` over the stored list of walks, of walks whose tables fill, and of pulls; the end of the input cuts the
+// last request.
 fn main() {
-    replaying::run();
+    replaying::answer_requests();
 }

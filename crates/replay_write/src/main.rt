@@ -1,4 +1,4 @@
 // `replay` over the stored list of written messages.
 fn main() {
-    replaying::run();
+    replaying::answer_requests();
 }

@@ -1,4 +1,4 @@
 // `replay` over the stored list of plans at each edge of the writer's checks.
 fn main() {
-    replaying::run();
+    replaying::answer_requests();
 }

@@ -2,15 +2,15 @@
 ghost use mathlib.Core.Path.{_≡_};
 ghost use mathlib.Core.Bool.{true};
 ghost use Prim.Native.Nat.{_<_};
+use crate::printing::line_end;
+use crate::printing::outcome;
+use crate::printing::text;
 use crate::walks::section_line;
-use printing::line_end;
-use printing::outcome;
-use printing::text;
+use index::Listed;
+use index::Outcome;
 use pull::Pulled;
 use pull::first;
-use resume::next_of;
-use state::Listed;
-use state::Outcome;
+use pull::pull_at;
 
 // Of a file of so many octets fewer sections are passed; then come a refusal at the most, and two ends.
 const FURTHER_CALLS: u64 = 3;
@@ -23,12 +23,12 @@ pub(crate) struct Telling {
     pub(crate) left: u64,
 }
 
-// Calls the reader until its second end.
+// Pulls until the second end, by the call that the reader's own `next` is proved equal to.
 pub(crate) fn answer_pull(file: &[u8]) {
     let mut t = untold(file);
     let mut progress = first(file);
     while t.going {
-        let pull = next_of(file, progress);
+        let pull = pull_at(file, progress);
         let answer = pull.answer;
         progress = pull.next;
         t = tell(answer, t);

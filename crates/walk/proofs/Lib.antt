@@ -1,8 +1,9 @@
--- Machinery of the crate's proofs: what a step of the machine guarantees, the submessage table, the turns of the loop and what
--- they give, and the machine values that the two walks by hand, of `put_line` and `walk`, are about.
-pub mod Machine
-pub mod Lists
-pub mod Turns
+-- Machinery of the crate's proofs: the tables as they are filled, with lines of any width (`Lent`); a turn of
+-- the loop with lent lines (`Turns`) and with lent numbers (`InNumbers`); the machine values that the two
+-- walks by hand, of `put_line` and `walk`, are about (`Lists`, `Values`).
 pub mod Put
-pub mod Runs
+pub mod Lent
+pub mod Turns
+pub mod InNumbers
+pub mod Lists
 pub mod Values

@@ -1,58 +1,328 @@
--- The turns of the loop: one turn and those after it, no turn once the walk has ended, and that a turn for each octet and one
--- more are enough (`Enough`). Assumes nothing.
-use mathlib.Core.Path.{_≡_, refl, ap}
-use Prim.Native.Nat.{ℕ, zero, suc, _-_, _≤_}
+-- A turn of the walk: a section that it passes had room for its row, and from tables as they are kept it makes tables as they are kept, or
+-- it ends the walk as the walk is meant to end.
+use mathlib.Core.Path.{_≡_, refl, sym, ap, _∙_}
+use mathlib.Core.Bool.{true, false}
+use mathlib.Core.List.{List, [], _∷_}
+use Prim.Native.Nat.{ℕ, suc, _+_, _-_, _*_, _/_, _^_, _≤_, _<_}
+use native.Mathlib.Nat.{mul-one}
 use native.Mathlib.Omega.{arith}
-use mathlib.Core.Bool.{Bool, true, false}
-use mathlib.Core.List.{List}
+use lib.Dec.{ltb, leb}
 use lib.ListN.{length}
+use borrow.Author.Tests.{lt-ltb, leb-true, leb-false, ltb-true, ltb-false}
 use Rattle.octets.specs.Choice.{pick}
-use Rattle.state.specs.declared.walk.Walk.{Walk}
-use Rattle.walk.specs.Tables.{roomOf}
-use Rattle.walk.specs.Turns.{World, rowsAfter, linesAfter, stepOf, turnOf, turnsOf}
-use Rattle.walk.proofs.Machine.{goes-on}
+use Rattle.framing.specs.declared.read.Section.{Section}
+use Rattle.framing.specs.declared.read.Cursor.{Cursor}
+use Rattle.framing.proofs.Tests.{by-test, never-both}
+use Rattle.order.specs.Order.{completes}
+use Rattle.index.specs.Lines.{place, inForce, withSubmessage, lineOf}
+use Rattle.index.specs.declared.line.Line.{Line}
+use Rattle.index.specs.declared.refusal.Refusal.the-variants as refusal
+use Rattle.index.specs.declared.refusal.Outcome.{Outcome}
+use Rattle.index.specs.declared.refusal.Outcome.the-variants as outcome
+use Rattle.index.specs.declared.listed.Listed.{Listed}
+use Rattle.index.specs.Bounds.{mostOctets}
+use Rattle.index.specs.declared.bounds.Room.{Room}
+use Rattle.index.specs.Walk.{Reached, walked}
+use Rattle.reading.specs.Reading.{seen}
+use Rattle.reading.specs.declared.Reading.{Reading}
+use Rattle.reading.specs.declared.Seen.{Seen}
+use Rattle.reading.specs.declared.Seen.the-variants.{Passes, Closes, Misplaced, NoGrid, Clean, InputOver, Unreadable}
+use Rattle.reading.proofs.Moves.{passes-stands, closes-stands}
+use Rattle.walk.specs.Tables.{roomOf, stored, walkOf}
+use Rattle.walk.specs.Turns.{
+  rowsAfter,
+  linesAfter,
+  oneMore,
+  freshOf,
+  endedOf,
+  refusedOf,
+  toldOf,
+  passedOf,
+  shutOf,
+  fittedOf,
+  takenOf,
+  closedOf,
+  misplacedOf,
+  bySeen,
+  turnOf,
+  stepOf,
+  begunOf,
+  concludedOf,
+}
+use Rattle.walk.specs.declared.tally.Tally.{Tally}
+use Rattle.walk.proofs.Put.{putAt, put-one}
+use Rattle.walk.proofs.Lent as lent
+use Rattle.walk.proofs.Lent.{encoded, Out, result}
 
--- a world after a step that gave the state w (with `stepped`, the body of `turnOf`)
-abbrev pub after : World → Walk → World
-after world w =
-    record {
-      walk = w;
-      rows = rowsAfter (w .passed) (w .last) (world .rows);
-      lines = linesAfter (w .due) (w .slot) (w .line) (world .lines);
-    }
+-- what a section that is passed had room for
+module _ (room : Room) where
+  abbrev InRoom : Tally → Type 0
+  InRoom t = t .passed ≡ true → t .last .place .0 < room .rows
 
--- the state that a turn's step gives
-abbrev pub stepped : List ℕ → World → Walk
-stepped file world = stepOf file (length (world .rows)) (length (world .lines)) (world .walk)
+  fitted-room : (t : Tally) (s : Section) (next : Reading) → t .passed ≡ false → InRoom (fittedOf room t s next)
+  unfolding fittedOf
+  fitted-room t s next none =
+      by-test InRoom (leb (room .rows) (t .sections)) (λ e p. absurd (never-both p none)) λ e p. leb-false (room .rows) (t .sections) e
 
--- while the walk goes on, turns are a turn and one fewer
-pub turns-next : (turns : ℕ) (file : List ℕ) (world : World) → world .walk .going ≡ true
-    → turnsOf (suc turns) file world ≡ turnsOf turns file (after world (stepped file world))
-unfolding turnsOf turnOf
-turns-next turns file world e = ap (λ (going : Bool). pick going (turnsOf turns file (turnOf file world)) world) e
+  seen-room : (v : Seen) (t : Tally) → t .passed ≡ false → InRoom (bySeen v room t)
+  unfolding bySeen takenOf closedOf misplacedOf
+  seen-room (Passes s next) t none =
+      by-test InRoom (completes (t .reading .order) (s .number))
+      (λ c. by-test InRoom (leb (room .lines) (t .lines)) (λ e p. absurd (never-both p none)) λ e. fitted-room (toldOf t) s next none)
+      λ c. fitted-room t s next none
+  seen-room (Closes s next) t none =
+      by-test InRoom (leb (room .rows) (t .sections)) (λ e p. absurd (never-both p none)) λ e.
+      by-test InRoom (leb (room .lines) (t .lines)) (λ f p. absurd (never-both p none)) λ f p. leb-false (room .rows) (t .sections) e
+  seen-room (Misplaced s) t none =
+      by-test InRoom (completes (t .reading .order) (s .number))
+      (λ c. by-test InRoom (leb (room .lines) (t .lines)) (λ e p. absurd (never-both p none)) λ e p. absurd (never-both p none))
+      λ c p. absurd (never-both p none)
+  seen-room (NoGrid s) t none = λ p. absurd (never-both p none)
+  seen-room Clean t none = λ p. absurd (never-both p none)
+  seen-room InputOver t none = λ p. absurd (never-both p none)
+  seen-room (Unreadable fault offset) t none = λ p. absurd (never-both p none)
 
--- once it has ended, they are none
-pub turns-ended : (turns : ℕ) (file : List ℕ) (world : World) → world .walk .going ≡ false → turnsOf turns file world ≡ world
-unfolding turnsOf
-turns-ended zero file world e = refl
-turns-ended (suc turns) file world e = ap (λ (going : Bool). pick going (turnsOf turns file (turnOf file world)) world) e
+  pub has-room : (file : List ℕ) (t : Tally) → InRoom (turnOf file room t)
+  unfolding turnOf
+  has-room file t = seen-room (seen file (t .reading)) (freshOf t) refl
 
--- where the walk goes on, more turns are left than octets
-abbrev pub Enough : List ℕ → ℕ → Walk → Type 0
-Enough file left w = w .going ≡ true → suc (length file - w .cursor .at .0) ≤ left
+-- a line is one element of its table
+abbrev pub one : Line → List Line
+one l = l ∷ []
 
-module _ (file : List ℕ) where
-  -- at the start there are enough turns, each turn uses one, and without any the walk does not go on
-  pub enough-first : (w : Walk) → Enough file (suc (length file)) w
-  enough-first w going = omega arith
+abbrev pub wide : (l : Line) → length (one l) ≡ 1
+wide l = refl
 
-  pub one-less : (rows lines left : ℕ) (w : Walk) → Enough file (suc left) w → w .going ≡ true
-      → Enough file left (stepOf file rows lines w)
-  unfolding stepOf
-  one-less rows lines left w enough going goes =
-      let before = enough going in
-      let moved = goes-on file (roomOf rows lines) w goes in
-      omega arith
+pub enough : (lines : List Line) → length lines * 1 ≤ length lines
+enough lines = omega arith
 
-  pub none-left : (w : Walk) → Enough file zero w → w .going ≡ true → ⊥
-  none-left w enough going = let before = enough going in omega arith
+same-lines : (lines : List Line) → encoded 1 one wide lines ≡ lines
+unfolding encoded
+same-lines [] = refl
+same-lines (l ∷ more) = ap (λ (rest : List Line). l ∷ rest) (same-lines more)
+
+-- a count below the end has one more
+more : (n : ℕ) → n < 18446744073709551615 → oneMore n ≡ n + 1
+unfolding oneMore
+more n below = simp (lt-ltb n 18446744073709551615 below)
+
+-- the tables after a turn
+row-none : (s : Listed) (rows : List ℕ) → rowsAfter false s rows ≡ rows
+unfolding rowsAfter
+row-none s rows = refl
+
+row-put : (s : Listed) (rows : List ℕ)
+    → rowsAfter true s rows
+    ≡ putAt (s .place .0 * 3) (s .section .number ∷ s .section .offset .0 ∷ s .section .length ∷ []) rows
+unfolding rowsAfter
+row-put s rows = refl
+
+line-none : (slot : ℕ) (l : Line) (lines : List Line) → linesAfter false slot l lines ≡ lines
+unfolding linesAfter
+line-none slot l lines = refl
+
+line-put : (slot : ℕ) (l : Line) (lines : List Line) → slot < length lines
+    → linesAfter true slot l lines ≡ putAt (slot * 1) (one l) lines
+unfolding linesAfter
+line-put slot l lines free = put-one slot l lines free ∙ ap (λ (i : ℕ). putAt i (one l) lines) (sym (mul-one slot))
+
+-- what a tally has reached
+abbrev pub reachedOf : Tally → Reached
+reachedOf t =
+    record { sections = t .sections; lines = t .lines; last = t .last; order = t .reading .order; force = t .force }
+
+module _ (file rows₀ : List ℕ) (lines₀ : List Line) where
+  abbrev pub Kept : Reached → Cursor → List ℕ → List Line → Type 0
+  Kept = lent.Kept 1 one wide file rows₀ lines₀ (length lines₀) (enough lines₀)
+
+  abbrev pub meant : Out 1 one wide
+  meant = lent.meant 1 one wide file rows₀ lines₀ (length lines₀) (enough lines₀)
+
+  -- where the walk goes on the tables are kept, and where it has ended they are as meant
+  pub record Held (t : Tally) (rows : List ℕ) (lines : List Line) : Type 0 where
+    pub on : t .going ≡ true → Kept (reachedOf t) (t .reading .cursor) rows lines
+    pub over : t .going ≡ false → meant ≡ result 1 one wide (t .sections) (t .lines) (t .force .message) (t .outcome) rows lines
+
+  -- the answer and both tables, at the end
+  pub record Ran (t : Tally) (now₁ : List ℕ) (now₂ : List Line) : Type 0 where
+    pub answer : concludedOf t ≡ walkOf file rows₀ lines₀ .answer
+    pub rows : now₁ ≡ walkOf file rows₀ lines₀ .rows
+    pub lines : now₂ ≡ walkOf file rows₀ lines₀ .lines
+
+  lines-are : meant .lines ≡ stored (walked (roomOf (length rows₀) (length lines₀)) file .lines) lines₀
+  lines-are = lent.lines-meant 1 one wide file rows₀ lines₀ (length lines₀) (enough lines₀) ∙ ap (λ (l : List Line). stored l lines₀) (same-lines _)
+
+  pub ran : (t : Tally) (rows : List ℕ) (lines : List Line) → Held t rows lines → t .going ≡ false → Ran t rows lines
+  unfolding walkOf
+  ran t rows lines held ended =
+      let e = held .over ended in
+      record {
+        answer = ap (λ (x : Out 1 one wide). x .answer) (sym e) ∙ lent.answer-meant 1 one wide file rows₀ lines₀ (length lines₀) (enough lines₀);
+        rows = ap (λ (x : Out 1 one wide). x .rows) (sym e) ∙ lent.rows-meant 1 one wide file rows₀ lines₀ (length lines₀) (enough lines₀);
+        lines = ap (λ (x : Out 1 one wide). x .lines) (sym e) ∙ lines-are;
+      }
+
+  -- before the first turn
+  abbrev Begins : Tally → Type 0
+  Begins t = Held t rows₀ lines₀
+
+  pub begun : Held (begunOf (length file)) rows₀ lines₀
+  unfolding begunOf
+  begun =
+      by-test Begins (ltb mostOctets (length file))
+      (λ long. record { on = λ g. absurd (never-both g refl); over = λ e. lent.too-long 1 one wide file rows₀ lines₀ (length lines₀) (enough lines₀) (ltb-true mostOctets (length file) long) })
+      λ short. record { on = λ g. lent.begins 1 one wide file rows₀ lines₀ (length lines₀) (enough lines₀) (ltb-false mostOctets (length file) short); over = λ e. absurd (never-both refl e) }
+
+  -- a turn
+  module _ (fits₁ : length rows₀ < 2 ^ 64) (fits₂ : length lines₀ < 2 ^ 64) (t : Tally) (rows : List ℕ) (lines : List Line)
+      (going : t .going ≡ true) (kept : Kept (reachedOf t) (t .reading .cursor) rows lines) where
+    abbrev room : Room
+    room = roomOf (length rows₀) (length lines₀)
+
+    abbrev f : Tally
+    f = freshOf t
+
+    -- what it leaves: tables as they are held, and less to read
+    pub record After (u : Tally) : Type 0 where
+      pub held : Held u (rowsAfter (u .passed) (u .last) rows) (linesAfter (u .due) (u .slot) (u .line) lines)
+      pub less : u .going ≡ true
+          → (t .reading .cursor .at .0 < length file) × (t .reading .cursor .at .0 < u .reading .cursor .at .0)
+
+    stops : (u : Tally) → u .going ≡ false
+        → meant
+        ≡ result 1 one wide (u .sections) (u .lines) (u .force .message) (u .outcome)
+        (rowsAfter (u .passed) (u .last) rows) (linesAfter (u .due) (u .slot) (u .line) lines)
+        → After u
+    stops u ended e =
+        record { held = record { on = λ g. absurd (never-both g ended); over = λ g. e }; less = λ g. absurd (never-both g ended) }
+
+    ends : (o : Outcome) → meant ≡ result 1 one wide (t .sections) (t .lines) (t .force .message) o rows lines → After (endedOf f o)
+    ends o e = stops (endedOf f o) refl (rw (row-none (t .last) rows, line-none (t .slot) (t .line) lines) e)
+
+    goes : (u : Tally) → u .going ≡ true
+        → Kept (reachedOf u) (u .reading .cursor) (rowsAfter (u .passed) (u .last) rows) (linesAfter (u .due) (u .slot) (u .line) lines)
+        → (t .reading .cursor .at .0 < length file) × (t .reading .cursor .at .0 < u .reading .cursor .at .0) → After u
+    goes u on k l = record { held = record { on = λ g. k; over = λ g. absurd (never-both on g) }; less = λ g. l }
+
+    -- the counts stay below their end
+    sections-more : t .sections < length rows₀ / 3 → oneMore (t .sections) ≡ t .sections + 1
+    sections-more free = more (t .sections) (omega arith)
+
+    lines-more : t .lines < length lines₀ → oneMore (t .lines) ≡ t .lines + 1
+    lines-more free = more (t .lines) (omega arith)
+
+    message-more : t .lines < length lines₀ → oneMore (t .force .message) ≡ t .force .message + 1
+    message-more free = more (t .force .message) (omega (arith, kept .messages))
+
+    submessage-more : t .lines < length lines₀ → oneMore (t .force .submessage) ≡ t .force .submessage + 1
+    submessage-more free = more (t .force .submessage) (omega (arith, kept .submessages))
+
+    line-stored : (l : Line) → t .lines < length lines₀ → linesAfter true (t .lines) l lines ≡ putAt (t .lines * 1) (one l) lines
+    line-stored l free = line-put (t .lines) l lines (omega (arith, kept .same-lines))
+
+    moves : {s : Section} {next : Reading} → seen file (t .reading) ≡ Passes s next
+        → (t .reading .cursor .at .0 < length file) × (t .reading .cursor .at .0 < next .cursor .at .0)
+    moves e = let stands = passes-stands file (t .reading) e in (stands .inside, omega (arith, stands .forward, stands .later))
+
+    moves-closing : {s : Section} {next : Reading} → seen file (t .reading) ≡ Closes s next
+        → (t .reading .cursor .at .0 < length file) × (t .reading .cursor .at .0 < next .cursor .at .0)
+    moves-closing e = let stands = closes-stands file (t .reading) e in (stands .inside, omega (arith, stands .forward, stands .later))
+
+    -- a section that fits, where nothing is completed
+    fits : (s : Section) (next : Reading) → seen file (t .reading) ≡ Passes s next → completes (t .reading .order) (s .number) ≡ false
+        → After (fittedOf room f s next)
+    unfolding fittedOf
+    fits s next e c =
+        by-test After (leb (length rows₀ / 3) (t .sections))
+        (λ full. ends _ (lent.no-row 1 one wide file rows₀ lines₀ (length lines₀) (enough lines₀) kept e c (leb-true _ _ full)))
+        λ left.
+        let free : t .sections < length rows₀ / 3 = leb-false (length rows₀ / 3) (t .sections) left in
+        goes (passedOf f s next) going
+        (rw (row-put (record { place = place (t .sections); section = s }) rows, line-none (t .slot) (t .line) lines, sections-more free)
+        (lent.passed 1 one wide file rows₀ lines₀ (length lines₀) (enough lines₀) kept (inForce (t .force) (s .number) (place (t .sections))) refl e c free))
+        (moves e)
+
+    -- .. behind the submessage that it completes
+    abbrev line : Line
+    line = lineOf (t .force) (place 0)
+
+    fits-behind : (s : Section) (next : Reading) → seen file (t .reading) ≡ Passes s next → completes (t .reading .order) (s .number) ≡ true
+        → t .lines < length lines₀ → After (fittedOf room (toldOf f) s next)
+    unfolding fittedOf
+    fits-behind s next e c room-left =
+        by-test After (leb (length rows₀ / 3) (t .sections))
+        (λ full.
+        stops (refusedOf (toldOf f) refusal.SectionTableFull s) refl
+        (rw (row-none (t .last) rows, line-stored line room-left, lines-more room-left)
+        (lent.no-row-behind 1 one wide file rows₀ lines₀ (length lines₀) (enough lines₀) kept e c room-left (leb-true _ _ full))))
+        λ left.
+        let free : t .sections < length rows₀ / 3 = leb-false (length rows₀ / 3) (t .sections) left in
+        goes (passedOf (toldOf f) s next) going
+        (rw (
+          row-put (record { place = place (t .sections); section = s }) rows,
+          line-stored line room-left,
+          sections-more free,
+          lines-more room-left,
+          submessage-more room-left,
+        )
+        (lent.passed-behind 1 one wide file rows₀ lines₀ (length lines₀) (enough lines₀) kept
+        (inForce (withSubmessage (t .force) (t .force .submessage + 1)) (s .number) (place (t .sections))) refl e c room-left free))
+        (moves e)
+
+    turns-by : (v : Seen) → seen file (t .reading) ≡ v → After (bySeen v room f)
+    unfolding bySeen takenOf closedOf misplacedOf
+    turns-by (Passes s next) e =
+        by-test After (completes (t .reading .order) (s .number))
+        (λ c. by-test After (leb (length lines₀) (t .lines))
+        (λ full. ends _ (lent.no-line 1 one wide file rows₀ lines₀ (length lines₀) (enough lines₀) kept e c (leb-true _ _ full)))
+        λ left. fits-behind s next e c (leb-false (length lines₀) (t .lines) left))
+        λ c. fits s next e c
+    turns-by (Closes s next) e =
+        by-test After (leb (length rows₀ / 3) (t .sections))
+        (λ full. ends _ (lent.no-row-closing 1 one wide file rows₀ lines₀ (length lines₀) (enough lines₀) kept e (leb-true _ _ full)))
+        λ left.
+        let free : t .sections < length rows₀ / 3 = leb-false (length rows₀ / 3) (t .sections) left in
+        by-test After (leb (length lines₀) (t .lines))
+        (λ full. ends _ (lent.no-line-closing 1 one wide file rows₀ lines₀ (length lines₀) (enough lines₀) kept e free (leb-true _ _ full)))
+        λ more-left.
+        let room-left : t .lines < length lines₀ = leb-false (length lines₀) (t .lines) more-left in
+        goes (shutOf f s next) going
+        (rw (
+          row-put (record { place = place (t .sections); section = s }) rows,
+          line-stored (lineOf (t .force) (place (t .sections))) room-left,
+          sections-more free,
+          lines-more room-left,
+          message-more room-left,
+        )
+        (lent.closed 1 one wide file rows₀ lines₀ (length lines₀) (enough lines₀) kept e free room-left))
+        (moves-closing e)
+    turns-by (Misplaced s) e =
+        by-test After (completes (t .reading .order) (s .number))
+        (λ c. by-test After (leb (length lines₀) (t .lines))
+        (λ full. ends _ (lent.no-line-misplaced 1 one wide file rows₀ lines₀ (length lines₀) (enough lines₀) kept e c (leb-true _ _ full)))
+        λ left.
+        let room-left : t .lines < length lines₀ = leb-false (length lines₀) (t .lines) left in
+        stops (refusedOf (toldOf f) (refusal.Misplaced (s .number)) s) refl
+        (rw (row-none (t .last) rows, line-stored line room-left, lines-more room-left) (lent.misplaced-line 1 one wide file rows₀ lines₀ (length lines₀) (enough lines₀) kept e c room-left)))
+        λ c. ends _ (lent.misplaced 1 one wide file rows₀ lines₀ (length lines₀) (enough lines₀) kept e c)
+    turns-by (NoGrid s) e = ends _ (lent.no-grid 1 one wide file rows₀ lines₀ (length lines₀) (enough lines₀) kept e)
+    turns-by Clean e = ends _ (lent.clean 1 one wide file rows₀ lines₀ (length lines₀) (enough lines₀) kept e)
+    turns-by InputOver e = ends _ (lent.input-over 1 one wide file rows₀ lines₀ (length lines₀) (enough lines₀) kept e)
+    turns-by (Unreadable fault offset) e = ends _ (lent.unreadable 1 one wide file rows₀ lines₀ (length lines₀) (enough lines₀) kept e)
+
+    -- the step, with the tables as long as they are
+    pub turned : After (stepOf file (length rows) (length lines) t)
+    unfolding stepOf turnOf
+    turned = rw (kept .same-rows, kept .same-lines) (turns-by (seen file (t .reading)) refl)
+
+-- turns that are left, at most; each turn makes them fewer
+abbrev pub leftOf : List ℕ → Tally → ℕ
+leftOf file t = pick (t .going) (suc (length file - t .reading .cursor .at .0)) 0
+
+pub falls : (file : List ℕ) (t u : Tally) → t .going ≡ true
+    → (u .going ≡ true → (t .reading .cursor .at .0 < length file) × (t .reading .cursor .at .0 < u .reading .cursor .at .0))
+    → leftOf file u < leftOf file t
+falls file t u going less =
+    rw going
+    (by-test (λ (n : ℕ). n < suc (length file - t .reading .cursor .at .0)) (u .going)
+    (λ g. let l = less g in omega (arith, l .0, l .1)) λ g. omega arith)

@@ -5,19 +5,19 @@ use mir.Syntax.{Ty, Local, local, tyUnit}
 use mir.Val.{Val}
 use denote.Laws.{Is}
 use denote.Struct.Laws as LL
-use Rattle.lines.specs.declared.Line.{Line}
-use Rattle.lines.proofs.Line as T
-use Rattle.lines.proofs.Line.Laws as T′
-use Rattle.state.specs.declared.walk.Walk.{Walk}
-use Rattle.state.proofs.walk.Walk as S
-use Rattle.state.proofs.walk.Walk.Laws as S′
+use Rattle.index.specs.declared.line.Line.{Line}
+use Rattle.index.proofs.line.Line as T
+use Rattle.index.proofs.line.Line.Laws as T′
+use Rattle.walk.specs.declared.tally.Tally.{Tally}
+use Rattle.walk.proofs.tally.Tally as S
+use Rattle.walk.proofs.tally.Tally.Laws as S′
 
 -- of a state; it stays shut in a walk, which would compute it at every step
-unfoldable pub walkVal : Walk → Val
-walkVal w = LL.val S.the-type S′.the-laws w
+unfoldable pub tallyVal : Tally → Val
+tallyVal t = LL.val S.the-type S′.the-laws t
 
-abbrev pub WalkIs : Walk → Type 0
-WalkIs w = Is S.the-row w (LL.vals S.the-type S′.the-laws w)
+abbrev pub TallyIs : Tally → Type 0
+TallyIs t = Is S.the-row t (LL.vals S.the-type S′.the-laws t)
 
 -- of a line
 abbrev pub lineVal : Line → Val

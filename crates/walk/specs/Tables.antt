@@ -3,10 +3,10 @@ use Prim.Native.Nat.{ℕ, _/_}
 use mathlib.Core.List.{List, [], _∷_, _++_}
 use lib.ListN.{length, drop}
 use Rattle.framing.specs.declared.read.Section.{Section}
-use Rattle.lines.specs.declared.Line.{Line}
-use Rattle.machine.specs.declared.Room.{Room}
-use Rattle.walk.specs.declared.tables.Answer.{Answer}
-use Rattle.meaning.specs.Walk.{Told, walked}
+use Rattle.index.specs.declared.line.Line.{Line}
+use Rattle.index.specs.declared.bounds.Room.{Room}
+use Rattle.walk.specs.declared.lines.Answer.{Answer}
+use Rattle.index.specs.Walk.{Told, walked}
 
 -- room for a row is three numbers, and a remainder is no room
 abbrev pub roomOf : ℕ → ℕ → Room

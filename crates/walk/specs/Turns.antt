@@ -1,14 +1,28 @@
--- Machinery: the turns of the loop that fills the lent tables. Assumes nothing.
-use Prim.Native.Nat.{ℕ, zero, suc, _+_, _*_}
-use mathlib.Core.Bool.{Bool}
+-- Machinery: a turn of the loop that fills the lent tables, over what is seen at the reading.
+use Prim.Native.Nat.{ℕ, _+_, _*_}
+use mathlib.Core.Bool.{Bool, true, false}
 use mathlib.Core.List.{List, _∷_, _++_}
+use lib.Dec.{ltb, leb}
 use lib.ListN.{length, take, drop, set}
 use Rattle.octets.specs.Choice.{pick}
-use Rattle.lines.specs.declared.Line.{Line}
-use Rattle.state.specs.declared.walk.Listed.{Listed}
-use Rattle.state.specs.declared.walk.Walk.{Walk}
-use Rattle.machine.specs.Machine.{advanceOf, startOf}
-use Rattle.walk.specs.declared.tables.Answer.{Answer}
+use Rattle.framing.specs.declared.read.Section.{Section}
+use Rattle.order.specs.Order.{completes}
+use Rattle.index.specs.Lines.{place, opened, inForce, withSubmessage, lineOf}
+use Rattle.index.specs.declared.line.Line.{Line}
+use Rattle.index.specs.declared.refusal.Refusal.{Refusal}
+use Rattle.index.specs.declared.refusal.Refusal.the-variants as refusal
+use Rattle.index.specs.declared.refusal.Outcome.{Outcome}
+use Rattle.index.specs.declared.refusal.Outcome.the-variants as outcome
+use Rattle.index.specs.declared.listed.Listed.{Listed}
+use Rattle.index.specs.Bounds.{mostOctets}
+use Rattle.index.specs.declared.bounds.Room.{Room}
+use Rattle.index.specs.Walk.{atStart}
+use Rattle.reading.specs.Reading.{reading, start, seen}
+use Rattle.reading.specs.declared.Reading.{Reading}
+use Rattle.reading.specs.declared.Seen.{Seen}
+use Rattle.reading.specs.declared.Seen.the-variants.{Passes, Closes, Misplaced, NoGrid, Clean, InputOver, Unreadable}
+use Rattle.walk.specs.declared.lines.Answer.{Answer}
+use Rattle.walk.specs.declared.tally.Tally.{Tally}
 use Rattle.walk.specs.Tables.{roomOf}
 
 -- a section's row in the table, at its place
@@ -17,51 +31,177 @@ rowAt s rows =
     let i = s .place .0 * 3 in
     take i rows ++ (s .section .number ∷ s .section .offset .0 ∷ s .section .length ∷ drop (i + 3) rows)
 
--- the section table after a step
+-- the section table after a turn
 unfoldable pub rowsAfter : Bool → Listed → List ℕ → List ℕ
 rowsAfter passed s rows = pick passed (rowAt s rows) rows
 
--- the submessage table after a step
+-- the submessage table after a turn
 unfoldable pub linesAfter : Bool → ℕ → Line → List Line → List Line
 linesAfter due slot line lines = pick due (set lines slot line) lines
 
--- all that a turn changes
-pub record World : Type 0 where
-  pub walk : Walk
-  pub rows : List ℕ
-  pub lines : List Line
+-- one more, of a count that no file brings to its end
+unfoldable pub oneMore : ℕ → ℕ
+oneMore n = pick (ltb n 18446744073709551615) (n + 1) n
 
--- a step, with room for so many lines
-unfoldable pub stepOf : List ℕ → ℕ → ℕ → Walk → Walk
-stepOf file numbers lines w = advanceOf file (roomOf numbers lines) w
+-- before the first section
+abbrev pub unstarted : Tally
+unstarted =
+    record {
+      reading = start;
+      sections = 0;
+      lines = 0;
+      force = opened 0;
+      last = atStart .last;
+      passed = false;
+      due = false;
+      slot = 0;
+      line = lineOf (opened 0) (place 0);
+      going = true;
+      outcome = outcome.Clean;
+    }
+
+-- a turn begins: nothing is due yet
+abbrev pub freshOf : Tally → Tally
+freshOf t =
+    record {
+      reading = t .reading;
+      sections = t .sections;
+      lines = t .lines;
+      force = t .force;
+      last = t .last;
+      passed = false;
+      due = false;
+      slot = t .slot;
+      line = t .line;
+      going = t .going;
+      outcome = t .outcome;
+    }
+
+-- the walk ends
+abbrev pub endedOf : Tally → Outcome → Tally
+endedOf t end =
+    record {
+      reading = t .reading;
+      sections = t .sections;
+      lines = t .lines;
+      force = t .force;
+      last = t .last;
+      passed = t .passed;
+      due = t .due;
+      slot = t .slot;
+      line = t .line;
+      going = false;
+      outcome = end;
+    }
+
+abbrev pub refusedOf : Tally → Refusal → Section → Tally
+refusedOf t why s = endedOf t (outcome.Refused why (place (t .sections)) (s .offset))
+
+-- the submessage in hand is complete, and its message goes on: its line is due, with end place 0
+abbrev pub toldOf : Tally → Tally
+toldOf t =
+    record {
+      reading = t .reading;
+      sections = t .sections;
+      lines = oneMore (t .lines);
+      force = withSubmessage (t .force) (oneMore (t .force .submessage));
+      last = t .last;
+      passed = t .passed;
+      due = true;
+      slot = t .lines;
+      line = lineOf (t .force) (place 0);
+      going = t .going;
+      outcome = t .outcome;
+    }
+
+-- a section is passed
+abbrev pub passedOf : Tally → Section → Reading → Tally
+passedOf t s next =
+    record {
+      reading = next;
+      sections = oneMore (t .sections);
+      lines = t .lines;
+      force = inForce (t .force) (s .number) (place (t .sections));
+      last = record { place = place (t .sections); section = s };
+      passed = true;
+      due = t .due;
+      slot = t .slot;
+      line = t .line;
+      going = t .going;
+      outcome = t .outcome;
+    }
+
+-- section 8 closes the message
+abbrev pub shutOf : Tally → Section → Reading → Tally
+shutOf t s next =
+    record {
+      reading = next;
+      sections = oneMore (t .sections);
+      lines = oneMore (t .lines);
+      force = opened (oneMore (t .force .message));
+      last = record { place = place (t .sections); section = s };
+      passed = true;
+      due = true;
+      slot = t .lines;
+      line = lineOf (t .force) (place (t .sections));
+      going = t .going;
+      outcome = outcome.Clean;
+    }
+
+-- a section that fits: 13
+unfoldable pub fittedOf : Room → Tally → Section → Reading → Tally
+fittedOf room t s next =
+    pick (leb (room .rows) (t .sections)) (refusedOf t refusal.SectionTableFull s)
+    (passedOf t s next)
+
+-- it first completes a submessage that goes on (14), or does not
+unfoldable pub takenOf : Room → Tally → Section → Reading → Tally
+takenOf room t s next =
+    pick (completes (t .reading .order) (s .number))
+    (pick (leb (room .lines) (t .lines)) (refusedOf t refusal.SubmessageTableFull s)
+    (fittedOf room (toldOf t) s next))
+    (fittedOf room t s next)
+
+-- it closes the message: 13, then 14, both lines or neither
+unfoldable pub closedOf : Room → Tally → Section → Reading → Tally
+closedOf room t s next =
+    pick (leb (room .rows) (t .sections)) (refusedOf t refusal.SectionTableFull s)
+    (pick (leb (room .lines) (t .lines)) (refusedOf t refusal.SubmessageTableFull s)
+    (shutOf t s next))
+
+-- it can't come next: 11, behind the submessage that it completes
+unfoldable pub misplacedOf : Room → Tally → Section → Tally
+misplacedOf room t s =
+    pick (completes (t .reading .order) (s .number))
+    (pick (leb (room .lines) (t .lines)) (refusedOf t refusal.SubmessageTableFull s)
+    (refusedOf (toldOf t) (refusal.Misplaced (s .number)) s))
+    (refusedOf t (refusal.Misplaced (s .number)) s)
+
+-- by what is seen
+unfoldable pub bySeen : Seen → Room → Tally → Tally
+bySeen (Passes s next) room t = takenOf room t s next
+bySeen (Closes s next) room t = closedOf room t s next
+bySeen (Misplaced s) room t = misplacedOf room t s
+bySeen (NoGrid s) room t = refusedOf t (refusal.NoGrid (s .number)) s
+bySeen Clean room t = endedOf t outcome.Clean
+bySeen InputOver room t = endedOf t (outcome.Refused refusal.InputOver (t .last .place) (t .last .section .offset))
+bySeen (Unreadable fault offset) room t = endedOf t (outcome.Refused (refusal.Unreadable fault) (place (t .sections)) offset)
 
 -- one turn
-unfoldable pub turnOf : List ℕ → World → World
-turnOf file world =
-    let w = stepOf file (length (world .rows)) (length (world .lines)) (world .walk) in
-    record {
-      walk = w;
-      rows = rowsAfter (w .passed) (w .last) (world .rows);
-      lines = linesAfter (w .due) (w .slot) (w .line) (world .lines);
-    }
+unfoldable pub turnOf : List ℕ → Room → Tally → Tally
+turnOf file room t = bySeen (seen file (t .reading)) room (freshOf t)
 
--- at most so many turns, while the walk goes on
-unfoldable pub turnsOf : ℕ → List ℕ → World → World
-turnsOf zero file world = world
-turnsOf (suc turns) file world =
-    let later = turnsOf turns file (turnOf file world) in
-    pick (world .walk .going) later world
+-- .. with tables of so many numbers and lines
+unfoldable pub stepOf : List ℕ → ℕ → ℕ → Tally → Tally
+stepOf file numbers lines t = turnOf file (roomOf numbers lines) t
 
--- before the first turn
-abbrev pub begun : List ℕ → List ℕ → List Line → World
-begun file rows lines = record { walk = startOf (length file); rows = rows; lines = lines }
+-- before the first turn: a file is at most 2^40 octets
+unfoldable pub begunOf : ℕ → Tally
+begunOf octets =
+    pick (ltb mostOctets octets) (endedOf unstarted (outcome.Refused refusal.FileTooLong (place 0) (record { 0 = 0 })))
+    unstarted
 
--- the counts and the outcome that a state has
-abbrev pub concludedOf : Walk → Answer
-concludedOf w =
-    record {
-      sections = w .place .0;
-      submessages = w .lines;
-      messages = w .standing .force .message;
-      outcome = w .ending .outcome;
-    }
+-- the counts and the outcome of a walk that has ended
+abbrev pub concludedOf : Tally → Answer
+concludedOf t =
+    record { sections = t .sections; submessages = t .lines; messages = t .force .message; outcome = t .outcome }

@@ -1,7 +1,12 @@
-// The walk of a file (document 01, "Order", "Refusal numbers"; the crate's parser.rs): every section listed, every
-// submessage a line, in tables that the caller lends. The deciding is `machine`'s; here is the loop that stores.
-mod tables;
+// The walk of a file (document 01, "Order", "Refusal numbers"; the crate's parser.rs): every section
+// listed, every submessage a line, in tables that the caller lends. `lines` has the walk with lines as
+// structs, over the turns of `tally`; `numbers` the walk with both tables as numbers, as a program in
+// another language lends them.
+mod lines;
+mod numbers;
+mod tally;
 
-pub use tables::Answer;
-pub use tables::step;
-pub use tables::walk;
+pub use lines::Answer;
+pub use lines::walk;
+pub use numbers::WalkAnswer;
+pub use numbers::walk_numbers;

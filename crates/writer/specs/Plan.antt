@@ -15,8 +15,8 @@ use Rattle.order.specs.declared.Order.the-variants.{AfterIndicator}
 use Rattle.order.specs.declared.Judged.{Judged}
 use Rattle.order.specs.declared.Judged.the-variants.{Fits, Closes, Misplaced, NoGrid}
 use Rattle.order.specs.declared.Place.{Place}
-use Rattle.lines.specs.Lines.{place}
-use Rattle.machine.specs.Machine.{mostOctets}
+use Rattle.index.specs.Lines.{place}
+use Rattle.index.specs.Bounds.{mostOctets}
 use Rattle.writer.specs.declared.Check.{Check}
 use Rattle.writer.specs.declared.Check.the-variants.{Passed, At}
 use Rattle.writer.specs.declared.Written.{Written}

@@ -8,7 +8,7 @@ ghost use Rattle.writer.specs.Plan.{partsOf, misfit, firstAt, isOutside,
 ghost use Rattle.writer.specs.declared.Check.the-variants.{Passed};
 use crate::Check;
 use crate::Written;
-use machine::MOST_OCTETS;
+use index::MOST_OCTETS;
 use order::Judged;
 use order::Order;
 use order::Place;

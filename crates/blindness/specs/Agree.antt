@@ -1,0 +1,98 @@
+-- What is decoded of a file's sections, and when two files differ in values octets only (01, "Fields", "Values octets and the public
+-- copy"). Assumes nothing.
+use Prim.Native.Nat.{ℕ, _<_}
+use mathlib.Core.Bool.{false}
+use mathlib.Core.List.{List, [], _∷_}
+use mathlib.Core.Path.{_≡_}
+use lib.Dec.{eqb}
+use lib.ListN.{length, getD, take, drop}
+use Rattle.octets.specs.Choice.{pick}
+use Rattle.sections.specs.Indicator.{indicatorOf}
+use Rattle.sections.specs.Identification.{identificationOf}
+use Rattle.sections.specs.GridDefinition.{gridDefinitionOf}
+use Rattle.sections.specs.ProdDefinition.{prodDefinitionOf}
+use Rattle.sections.specs.ReprDefinition.{reprDefinitionOf}
+use Rattle.sections.specs.BitMap.{bitMapOf}
+use Rattle.sections.specs.declared.indicator.MaybeIndicator.{MaybeIndicator}
+use Rattle.sections.specs.declared.identification.MaybeIdentification.{MaybeIdentification}
+use Rattle.sections.specs.declared.grid_definition.MaybeGridDefinition.{MaybeGridDefinition}
+use Rattle.sections.specs.declared.prod_definition.MaybeProdDefinition.{MaybeProdDefinition}
+use Rattle.sections.specs.declared.repr_definition.MaybeReprDefinition.{MaybeReprDefinition}
+use Rattle.sections.specs.declared.bit_map.MaybeBitMap.{MaybeBitMap}
+use Rattle.products.specs.Products.{categoryOf, numberOf, processOf, forecastOf, fixedOf}
+use Rattle.products.specs.declared.MaybeOctet.{MaybeOctet}
+use Rattle.products.specs.declared.MaybeTime.{MaybeTime}
+use Rattle.products.specs.declared.MaybeSurfaces.{MaybeSurfaces}
+use Rattle.framing.specs.declared.read.Section.{Section}
+use Rattle.index.specs.Bounds.{unlimited}
+use Rattle.index.specs.Walk.{walked}
+use Rattle.walk.specs.Tables.{roomOf}
+use Rattle.index.specs.declared.line.Line.{Line}
+use Rattle.publish.specs.Values.{Terms, isValue}
+
+-- a section's own octets
+unfoldable pub octetsOf : List ℕ → Section → List ℕ
+octetsOf file s = take (s .length) (drop (s .offset .0) file)
+
+-- those behind its header
+unfoldable pub payloadOf : List ℕ → Section → List ℕ
+payloadOf file s = drop 5 (octetsOf file s)
+
+-- what a section 4 says: its own fields and the product fields
+pub record Product : Type 0 where
+  pub definition : MaybeProdDefinition
+  pub category : MaybeOctet
+  pub number : MaybeOctet
+  pub process : MaybeOctet
+  pub forecast : MaybeTime
+  pub fixed : MaybeSurfaces
+
+unfoldable pub productOf : List ℕ → Product
+productOf s =
+    record {
+      definition = prodDefinitionOf s;
+      category = categoryOf s;
+      number = numberOf s;
+      process = processOf s;
+      forecast = forecastOf s;
+      fixed = fixedOf s;
+    }
+
+-- the decoded fields of a section; sections 2, 7 and 8 have none
+pub data Fields : Type 0 where
+  indicator : MaybeIndicator → Fields
+  identification : MaybeIdentification → Fields
+  gridDefinition : MaybeGridDefinition → Fields
+  product : Product → Fields
+  reprDefinition : MaybeReprDefinition → Fields
+  bitMap : MaybeBitMap → Fields
+  none : Fields
+
+-- by its number
+unfoldable pub fieldsOf : List ℕ → Section → Fields
+fieldsOf file s =
+    pick (eqb (s .number) 0) (indicator (indicatorOf (octetsOf file s)))
+    (pick (eqb (s .number) 1) (identification (identificationOf (payloadOf file s)))
+    (pick (eqb (s .number) 3) (gridDefinition (gridDefinitionOf (payloadOf file s)))
+    (pick (eqb (s .number) 4) (product (productOf (payloadOf file s)))
+    (pick (eqb (s .number) 5) (reprDefinition (reprDefinitionOf (payloadOf file s)))
+    (pick (eqb (s .number) 6) (bitMap (bitMapOf (payloadOf file s)))
+    none)))))
+
+-- of each listed section
+unfoldable pub decoded : List ℕ → List Section → List Fields
+decoded file [] = []
+decoded file (s ∷ more) = fieldsOf file s ∷ decoded file more
+
+-- two files of one length that differ at most in values octets of the listed sections
+pub record Agree (terms : Terms) (sections : List Section) (f g : List ℕ) : Type 0 where
+  pub one-length : length f ≡ length g
+  pub one-octet : (k : ℕ) → k < length f → isValue terms sections k ≡ false → getD f k 0 ≡ getD g k 0
+
+-- at most in those of the first one's walk, with room for all of it
+abbrev pub Alike : Terms → List ℕ → List ℕ → Type 0
+Alike terms f g = Agree terms (walked unlimited f .sections) f g
+
+-- at most in those of the sections that lent tables list
+abbrev pub AlikeLent : Terms → List ℕ → List Line → List ℕ → List ℕ → Type 0
+AlikeLent terms rows lines f g = Agree terms (walked (roomOf (length rows) (length lines)) f .sections) f g

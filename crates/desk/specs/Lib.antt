@@ -1,2 +1,0 @@
--- What the contract of `desk` cites.
-pub mod Desk

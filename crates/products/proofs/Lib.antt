@@ -1,0 +1,2 @@
+-- `Ranges` has what a table of ranges says of a whole interval.
+pub mod Ranges

@@ -1,0 +1,176 @@
+-- The walk where no table is lent, over what is seen: a section is passed, or the walk ends. For every loop over `look` without tables.
+use mathlib.Core.Path.{_≡_, refl, ap, _∙_}
+use mathlib.Core.Bool.{Bool, true, false}
+use mathlib.Core.List.{List, [], _∷_}
+use Prim.Native.Nat.{ℕ, _+_, _-_, _≤_}
+use native.Mathlib.Omega.{arith}
+use lib.Dec.{leb}
+use lib.ListN.{length}
+use borrow.Author.Tests.{lt-leb, le-ltb}
+use Rattle.order.specs.Order.{completes, isBetween}
+use Rattle.order.proofs.Laws.{fits-open, closes-only}
+use Rattle.framing.proofs.Tests.{never-both}
+use Rattle.framing.specs.declared.read.Offset.{Offset}
+use Rattle.framing.specs.declared.read.Section.{Section}
+use Rattle.framing.specs.declared.read.Cursor.{Cursor}
+use Rattle.framing.specs.declared.read.Fault.{Fault}
+use Rattle.framing.specs.Read as read
+use Rattle.framing.proofs.OneRead.{Reads, reads-as, goes}
+use Rattle.index.specs.Lines.{place, opened, inForce}
+use Rattle.index.specs.declared.refusal.Refusal.the-variants as refusal
+use Rattle.index.specs.declared.refusal.Outcome.{Outcome}
+use Rattle.index.specs.declared.refusal.Outcome.the-variants.{Clean, Refused}
+use Rattle.index.specs.Bounds.{mostOctets, unlimited}
+use Rattle.index.specs.Walk.{Reached, atStart, here, goneOn, fitted, closing, Told, ends, walked}
+use Rattle.reading.specs.Reading.{reading, start, seen}
+use Rattle.reading.specs.declared.Reading.{Reading}
+use Rattle.reading.specs.declared.Seen.{Seen}
+use Rattle.reading.specs.declared.Seen.the-variants as seen
+use Rattle.reading.proofs.Moves.{Stands, passes-reads, passes-stands, passes-fits, closes-reads, closes-stands, closes-between, closes-judged}
+use Rattle.reading.proofs.Told.{toldFrom, toldBy, told-next, told-start}
+
+-- what the walk tells from here on
+abbrev pub toldOn : List ℕ → Reached → Cursor → Told
+toldOn file r cursor = toldFrom file unlimited r cursor
+
+-- no more sections than octets, no more lines than sections
+pub record Bounded (file : List ℕ) (r : Reached) (cursor : Cursor) : Type 0 where
+  pub sections : r .sections ≤ cursor .at .0
+  pub lines : r .lines ≤ r .sections
+  pub inside : r .sections ≤ length file
+
+-- a section is passed: the walk goes on with q
+pub record Passes (file : List ℕ) (r : Reached) (cursor : Cursor) (s : Section) (next : Reading) : Type 0 where
+  pub q : Reached
+  pub order : q .order ≡ next .order
+  pub placed : q .sections ≡ r .sections + 1
+  pub last : q .last ≡ here r s
+  pub bounded : Bounded file q (next .cursor)
+  pub is-read : Reads file (cursor .at .0) (cursor .rest) (read.Section s (next .cursor))
+  pub between : isBetween (next .order) ≡ true → s .number ≡ 8
+  pub sections : toldOn file r cursor .sections ≡ s ∷ toldOn file q (next .cursor) .sections
+  pub outcome : toldOn file r cursor .outcome ≡ toldOn file q (next .cursor) .outcome
+
+-- it ends with this outcome
+pub record Ends (told : Told) (o : Outcome) : Type 0 where
+  pub none : told .sections ≡ []
+  pub outcome : told .outcome ≡ o
+
+-- the walk of a file is what is told from its start on, and is bounded there
+pub first-told : (file : List ℕ) → length file ≤ mostOctets → walked unlimited file ≡ toldOn file atStart (start .cursor)
+first-told file fits = told-start file unlimited ∙ simp (le-ltb _ _ fits)
+
+pub first-bounded : (file : List ℕ) → Bounded file atStart (start .cursor)
+first-bounded file = record { sections = omega arith; lines = omega arith; inside = omega arith }
+
+module _ (file : List ℕ) (fits : length file ≤ mostOctets) (r : Reached) (cursor : Cursor) (bounded : Bounded file r cursor) where
+  abbrev Sees : Seen → Type 0
+  Sees v = seen file (reading cursor (r .order)) ≡ v
+
+  tells : {v : Seen} → Sees v → toldOn file r cursor ≡ toldBy file unlimited r v
+  tells e = told-next file unlimited r cursor ∙ ap (toldBy file unlimited r) e
+
+  rows : leb (unlimited .rows) (r .sections) ≡ false
+  rows = lt-leb (unlimited .rows) (r .sections) (omega (arith, bounded .inside, fits))
+
+  lines : leb (unlimited .lines) (r .lines) ≡ false
+  lines = lt-leb (unlimited .lines) (r .lines) (omega (arith, bounded .inside, bounded .lines, fits))
+
+  module _ {s : Section} (next : Reading) (stands : Stands file (cursor .at .0) s (next .cursor)) where
+    passing : (t : Bool) → completes (r .order) (s .number) ≡ t → Sees (seen.Passes s next) → Passes file r cursor s next
+    unfolding toldBy fitted
+    passing true c e =
+        record {
+          q =
+              record {
+                sections = r .sections + 1;
+                lines = r .lines + 1;
+                last = here r s;
+                order = next .order;
+                force = inForce (goneOn r .force) (s .number) (place (r .sections));
+              };
+          order = refl;
+          placed = refl;
+          last = refl;
+          bounded = record { sections = omega (arith, bounded .sections, stands .forward, stands .later); lines = omega (arith, bounded .lines); inside = omega (arith, bounded .sections, stands .inside) };
+          is-read = reads-as file (cursor .at .0) (cursor .rest) (passes-reads file (reading cursor (r .order)) e);
+          between = λ b. absurd (never-both b (fits-open (r .order) (s .number) (passes-fits file (reading cursor (r .order)) e)));
+          sections = ap (λ (t : Told). t .sections) (tells e) ∙ rw (c, lines, rows);
+          outcome = ap (λ (t : Told). t .outcome) (tells e) ∙ rw (c, lines, rows);
+        }
+    passing false c e =
+        record {
+          q =
+              record {
+                sections = r .sections + 1;
+                lines = r .lines;
+                last = here r s;
+                order = next .order;
+                force = inForce (r .force) (s .number) (place (r .sections));
+              };
+          order = refl;
+          placed = refl;
+          last = refl;
+          bounded = record { sections = omega (arith, bounded .sections, stands .forward, stands .later); lines = omega (arith, bounded .lines); inside = omega (arith, bounded .sections, stands .inside) };
+          is-read = reads-as file (cursor .at .0) (cursor .rest) (passes-reads file (reading cursor (r .order)) e);
+          between = λ b. absurd (never-both b (fits-open (r .order) (s .number) (passes-fits file (reading cursor (r .order)) e)));
+          sections = ap (λ (t : Told). t .sections) (tells e) ∙ rw (c, rows);
+          outcome = ap (λ (t : Told). t .outcome) (tells e) ∙ rw (c, rows);
+        }
+
+    closing-passes : Sees (seen.Closes s next) → Passes file r cursor s next
+    unfolding toldBy closing
+    closing-passes e =
+        record {
+          q =
+              record {
+                sections = r .sections + 1;
+                lines = r .lines + 1;
+                last = here r s;
+                order = next .order;
+                force = opened (r .force .message + 1);
+              };
+          order = refl;
+          placed = refl;
+          last = refl;
+          bounded = record { sections = omega (arith, bounded .sections, stands .forward, stands .later); lines = omega (arith, bounded .lines); inside = omega (arith, bounded .sections, stands .inside) };
+          is-read = reads-as file (cursor .at .0) (cursor .rest) (closes-reads file (reading cursor (r .order)) e);
+          between = λ b. closes-only (r .order) (s .number) (closes-judged file (reading cursor (r .order)) e) .1;
+          sections = ap (λ (t : Told). t .sections) (tells e) ∙ rw (rows, lines, closes-between file (reading cursor (r .order)) e);
+          outcome = ap (λ (t : Told). t .outcome) (tells e) ∙ rw (rows, lines, closes-between file (reading cursor (r .order)) e);
+        }
+
+  pub passes : {s : Section} {next : Reading} → Sees (seen.Passes s next) → Passes file r cursor s next
+  passes {s} {next} e = passing next (passes-stands file (reading cursor (r .order)) e) (completes (r .order) (s .number)) refl e
+
+  pub closes : {s : Section} {next : Reading} → Sees (seen.Closes s next) → Passes file r cursor s next
+  closes {next = next} e = closing-passes next (closes-stands file (reading cursor (r .order)) e) e
+
+  -- how it ends
+  pub clean : Sees seen.Clean → Ends (toldOn file r cursor) Clean
+  unfolding toldBy
+  clean e = rw (tells e) (record { none = refl; outcome = refl })
+
+  pub input-over : Sees seen.InputOver → Ends (toldOn file r cursor) (Refused refusal.InputOver (r .last .place) (r .last .section .offset))
+  unfolding toldBy
+  input-over e = rw (tells e) (record { none = refl; outcome = refl })
+
+  pub unreadable : {fault : Fault} {offset : Offset} → Sees (seen.Unreadable fault offset)
+      → Ends (toldOn file r cursor) (Refused (refusal.Unreadable fault) (place (r .sections)) offset)
+  unfolding toldBy
+  unreadable e = rw (tells e) (record { none = refl; outcome = refl })
+
+  pub no-grid : {s : Section} → Sees (seen.NoGrid s)
+      → Ends (toldOn file r cursor) (Refused (refusal.NoGrid (s .number)) (place (r .sections)) (s .offset))
+  unfolding toldBy
+  no-grid e = rw (tells e) (record { none = refl; outcome = refl })
+
+  pub misplaced : {s : Section} → Sees (seen.Misplaced s)
+      → Ends (toldOn file r cursor) (Refused (refusal.Misplaced (s .number)) (place (r .sections)) (s .offset))
+  unfolding toldBy
+  misplaced {s} e = by-completing (completes (r .order) (s .number)) refl
+    where
+      by-completing : (t : Bool) → completes (r .order) (s .number) ≡ t
+          → Ends (toldOn file r cursor) (Refused (refusal.Misplaced (s .number)) (place (r .sections)) (s .offset))
+      by-completing true c = rw (tells e, c, lines) (record { none = refl; outcome = refl })
+      by-completing false c = rw (tells e, c) (record { none = refl; outcome = refl })

@@ -1,0 +1,74 @@
+-- Machinery: a section with a header that fits and is whole, seen at a glance.
+use Prim.Native.Nat.{ℕ, _-_, _≤_, _<_}
+use mathlib.Core.Bool.{Bool, true, false}
+use mathlib.Core.Path.{_≡_}
+use mathlib.Core.List.{List}
+use lib.Dec.{eqb}
+use Rattle.octets.specs.Choice.{pick}
+use Rattle.sections.specs.Kinds.{leastPayloadOf}
+use Rattle.framing.specs.Framing.{section, payloadAt, readAt}
+use Rattle.framing.specs.declared.read.Section.{Section}
+use Rattle.framing.specs.declared.read.Cursor.{Cursor}
+use Rattle.framing.specs.Read as read
+use Rattle.order.specs.Order.{judged, completes}
+use Rattle.order.specs.declared.Order.{Order}
+use Rattle.order.specs.declared.Order.the-variants.{
+  AfterIndicator,
+  AfterIdentification,
+  AfterLocalUse,
+  AfterGrid,
+  AfterProduct,
+  AfterRepresentation,
+  AfterBitMap,
+  AfterData,
+}
+use Rattle.order.specs.declared.Judged.the-variants.{Fits, Closes}
+use Rattle.reading.specs.declared.quick.Ahead.{Ahead}
+use Rattle.reading.specs.declared.quick.Ahead.the-variants as ahead
+
+-- what was read last, after a section of this number
+unfoldable pub lastRead : ℕ → Order
+lastRead number =
+    pick (eqb number 0) AfterIndicator
+    (pick (eqb number 1) AfterIdentification
+    (pick (eqb number 2) AfterLocalUse
+    (pick (eqb number 3) AfterGrid
+    (pick (eqb number 4) AfterProduct
+    (pick (eqb number 5) AfterRepresentation
+    (pick (eqb number 6) AfterBitMap AfterData))))))
+
+-- of a section with this header nothing is refused, if its message has room for it
+unfoldable pub Whole : ℕ → ℕ → ℕ → Bool → Type 0
+Whole number len left answer =
+    answer ≡ true
+    → (5 ≤ len)
+    × ((at rest : ℕ) → len ≤ rest → payloadAt (leastPayloadOf number) at number len left rest ≡ section number at len (rest - len))
+
+-- a section of this number fits the order, and completes no submessage before it
+pub record Fitting (order : Order) (number : ℕ) : Type 0 where
+  pub fits : judged order number ≡ Fits (lastRead number)
+  pub completing : completes order number ≡ false
+  pub kept : number < 8
+
+unfoldable pub Usual : Order → ℕ → Bool → Type 0
+Usual order number answer = answer ≡ true → Fitting order number
+
+-- a section is read at the cursor, with the next read at `next`
+abbrev pub ReadAs : List ℕ → Cursor → Section → Cursor → Type 0
+ReadAs file cursor s next = readAt file (cursor .at .0) (cursor .rest) ≡ read.Section s next
+
+-- it is passed
+pub record Passing (file : List ℕ) (cursor : Cursor) (order : Order) (s : Section) (next : Cursor) : Type 0 where
+  pub reads : ReadAs file cursor s next
+  pub fitting : Fitting order (s .number)
+
+-- it closes its message
+pub record Closing (file : List ℕ) (cursor : Cursor) (order : Order) (s : Section) (next : Cursor) : Type 0 where
+  pub reads : ReadAs file cursor s next
+  pub closes : judged order (s .number) ≡ Closes
+  pub completing : completes order (s .number) ≡ false
+
+-- what holds of a section that was seen
+unfoldable pub Glanced : (Section → Cursor → Type 0) → Ahead → Type 0
+Glanced P (ahead.Section s next) = P s next
+Glanced P ahead.Other = Unit

@@ -1,4 +1,0 @@
-// `replay` over the stored list of public copies.
-fn main() {
-    replaying::run();
-}

@@ -1,2 +1,0 @@
--- What the contracts of `requests` and `replaying` cite.
-pub mod Requests

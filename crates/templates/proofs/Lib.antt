@@ -1,2 +1,0 @@
--- What the proofs of `templates` share: what a table of ranges says of a whole interval.
-pub mod Ranges

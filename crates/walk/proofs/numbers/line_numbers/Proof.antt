@@ -1,0 +1,11 @@
+-- `line_numbers` meets its contract: each number is the line's. Assumes nothing.
+use borrow.Author.Needs.{needs}
+use Rattle.walk.specs.Numbers.{lineNumbers}
+use Rattle.walk.proofs.numbers.line_numbers.Statement.{statement}
+use Rattle.walk.proofs.numbers.line_numbers.Tie as tie
+
+pub line-numbers-spec : {M : Type 1} → statement M
+unfolding lineNumbers
+line-numbers-spec =
+    tie.close
+    (tie.spec (λ c κs. search needs) (λ c κs. search needs) (λ c. rw (c .local-place .ensures, c .before .has-local .ensures)))

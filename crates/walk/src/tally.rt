@@ -1,0 +1,247 @@
+// A turn of the walk, by value: what is reached, and what is due for the lent tables.
+ghost use mathlib.Core.Path.{_≡_};
+ghost use lib.ListN.{length};
+ghost use Rattle.walk.specs.Turns.{oneMore, unstarted, begunOf, freshOf, endedOf, refusedOf, toldOf, passedOf, fittedOf, takenOf, closedOf, misplacedOf, turnOf};
+use framing::Offset;
+use framing::Section;
+use index::Force;
+use index::Line;
+use index::Listed;
+use index::MOST_OCTETS;
+use index::Outcome;
+use index::Refusal;
+use index::Room;
+use index::in_force;
+use index::line_of;
+use index::opened;
+use index::unlisted;
+use index::with_submessage;
+use order::Place;
+use order::completing;
+use reading::Reading;
+use reading::Seen;
+use reading::look;
+use reading::start;
+
+pub(crate) struct Tally {
+    // Where the next section is looked for.
+    pub reading: Reading,
+    // So many sections and lines are told, and what is in force.
+    pub sections: u64,
+    pub lines: u64,
+    pub force: Force,
+    // The section passed last, and whether this turn passed it: its row is due.
+    pub last: Listed,
+    pub passed: bool,
+    // Whether a line is due, its place in the table, and the line.
+    pub due: bool,
+    pub slot: usize,
+    pub line: Line,
+    // Whether the walk goes on; if not, how it ended.
+    pub going: bool,
+    pub outcome: Outcome,
+}
+
+// One more, of a count that no file brings to its end.
+fn one_more(n: u64) -> u64
+    ensures { λ r. ⌜ r ≡ oneMore n ⌝ }
+{
+    if n < u64::MAX {
+        return n + 1;
+    }
+    n
+}
+
+// Before the first section.
+fn unstarted() -> Tally
+    ensures { λ r. ⌜ r ≡ unstarted ⌝ }
+{
+    let force = opened(0);
+    Tally {
+        reading: start(),
+        sections: 0,
+        lines: 0,
+        force,
+        last: unlisted(),
+        passed: false,
+        due: false,
+        slot: 0,
+        line: line_of(force, Place(0)),
+        going: true,
+        outcome: Outcome::Clean,
+    }
+}
+
+// The walk ends.
+fn ended(t: Tally, outcome: Outcome) -> Tally
+    ensures { λ r. ⌜ r ≡ endedOf t outcome ⌝ }
+{
+    let reading = t.reading;
+    let force = t.force;
+    let last = t.last;
+    let line = t.line;
+    Tally {
+        reading,
+        sections: t.sections,
+        lines: t.lines,
+        force,
+        last,
+        passed: t.passed,
+        due: t.due,
+        slot: t.slot,
+        line,
+        going: false,
+        outcome,
+    }
+}
+
+// .. with a refusal of the section in hand.
+fn refused(t: Tally, why: Refusal, section: Section) -> Tally
+    ensures { λ r. ⌜ r ≡ refusedOf t why section ⌝ }
+{
+    let offset = section.offset;
+    ended(t, Outcome::Refused(why, Place(t.sections), offset))
+}
+
+// Before the first turn: a file over 2^40 octets is refused.
+pub(crate) fn begin(file: &[u8]) -> Tally
+    ensures { λ r. ⌜ r ≡ begunOf (length (now (file .entry))) ⌝ }
+{
+    if MOST_OCTETS < file.len() as u64 {
+        return ended(
+            unstarted(),
+            Outcome::Refused(Refusal::FileTooLong, Place(0), Offset(0)),
+        );
+    }
+    unstarted()
+}
+
+// A turn begins: nothing is due yet.
+fn fresh(mut t: Tally) -> Tally
+    ensures { λ r. ⌜ r ≡ freshOf t ⌝ }
+{
+    t.passed = false;
+    t.due = false;
+    t
+}
+
+// The submessage in hand is complete, and its message goes on: its line is due.
+fn told(mut t: Tally) -> Tally
+    ensures { λ r. ⌜ r ≡ toldOf t ⌝ }
+{
+    let force = t.force;
+    t.force = with_submessage(force, one_more(force.submessage));
+    t.due = true;
+    t.slot = t.lines as usize;
+    t.lines = one_more(t.lines);
+    t.line = line_of(force, Place(0));
+    t
+}
+
+// A section is passed.
+fn passed(mut t: Tally, section: Section, next: Reading) -> Tally
+    ensures { λ r. ⌜ r ≡ passedOf t section next ⌝ }
+{
+    let place = Place(t.sections);
+    let force = t.force;
+    let last = Listed { place, section };
+    t.reading = next;
+    t.sections = one_more(t.sections);
+    t.force = in_force(force, section.number, place);
+    t.last = last;
+    t.passed = true;
+    t
+}
+
+// It fits: 13.
+fn fitted(room: Room, t: Tally, section: Section, next: Reading) -> Tally
+    ensures { λ r. ⌜ r ≡ fittedOf room t section next ⌝ }
+{
+    if room.rows <= t.sections {
+        return refused(t, Refusal::SectionTableFull, section);
+    }
+    passed(t, section, next)
+}
+
+// It first completes a submessage that goes on (14), or does not.
+fn taken(room: Room, t: Tally, section: Section, next: Reading) -> Tally
+    ensures { λ r. ⌜ r ≡ takenOf room t section next ⌝ }
+{
+    let reading = t.reading;
+    let order = reading.order;
+    if completing(order, section.number) {
+        if room.lines <= t.lines {
+            return refused(t, Refusal::SubmessageTableFull, section);
+        }
+        return fitted(room, told(t), section, next);
+    }
+    fitted(room, t, section, next)
+}
+
+// It closes the message: 13, then 14, both lines or neither.
+fn closed(room: Room, t: Tally, section: Section, next: Reading) -> Tally
+    ensures { λ r. ⌜ r ≡ closedOf room t section next ⌝ }
+{
+    if room.rows <= t.sections {
+        return refused(t, Refusal::SectionTableFull, section);
+    }
+    if room.lines <= t.lines {
+        return refused(t, Refusal::SubmessageTableFull, section);
+    }
+    let place = Place(t.sections);
+    let force = t.force;
+    Tally {
+        reading: next,
+        sections: one_more(t.sections),
+        lines: one_more(t.lines),
+        force: opened(one_more(force.message)),
+        last: Listed { place, section },
+        passed: true,
+        due: true,
+        slot: t.lines as usize,
+        line: line_of(force, place),
+        going: t.going,
+        outcome: Outcome::Clean,
+    }
+}
+
+// It can't come next: 11, behind the submessage that it completes.
+fn misplaced(room: Room, t: Tally, section: Section) -> Tally
+    ensures { λ r. ⌜ r ≡ misplacedOf room t section ⌝ }
+{
+    let reading = t.reading;
+    let order = reading.order;
+    if completing(order, section.number) {
+        if room.lines <= t.lines {
+            return refused(t, Refusal::SubmessageTableFull, section);
+        }
+        return refused(told(t), Refusal::Misplaced(section.number), section);
+    }
+    refused(t, Refusal::Misplaced(section.number), section)
+}
+
+// One turn, with room for so many rows and lines.
+pub(crate) fn turn(file: &[u8], room: Room, before: Tally) -> Tally
+    ensures { λ r. ⌜ r ≡ turnOf (now (file .entry)) room before ⌝ }
+{
+    let t = fresh(before);
+    let seen = look(file, before.reading);
+    match seen {
+        Seen::Passes(section, next) => taken(room, t, section, next),
+        Seen::Closes(section, next) => closed(room, t, section, next),
+        Seen::Misplaced(section) => misplaced(room, t, section),
+        Seen::NoGrid(section) => refused(t, Refusal::NoGrid(section.number), section),
+        Seen::Clean => ended(t, Outcome::Clean),
+        Seen::InputOver => {
+            let last = before.last;
+            let section = last.section;
+            let place = last.place;
+            let offset = section.offset;
+            ended(t, Outcome::Refused(Refusal::InputOver, place, offset))
+        }
+        Seen::Unreadable(fault, offset) => ended(
+            t,
+            Outcome::Refused(Refusal::Unreadable(fault), Place(before.sections), offset),
+        ),
+    }
+}

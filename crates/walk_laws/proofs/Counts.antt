@@ -1,0 +1,324 @@
+-- How many sections and lines are told, where lines end, and what the tables' room changes. Assumes nothing.
+use Prim.Native.Nat.{ℕ, suc, _+_, _-_, _≤_}
+use native.Mathlib.Omega.{arith}
+use native.Mathlib.Nat.{sub-zero}
+use mathlib.Core.Path.{_≡_, refl, sym, ap, subst, _∙_}
+use mathlib.Core.Bool.{Bool, true, false}
+use mathlib.Core.List.{List, [], _∷_, _++_}
+use mathlib.Core.Logic.{_⊎_, inl, inr}
+use lib.Dec.{ltb}
+use lib.ListN.{length, length-append}
+use borrow.Author.Tests.{ltb-false, eq-eqb, ne-eqb}
+use Rattle.framing.specs.declared.read.Section.{Section}
+use Rattle.framing.specs.Read.{Read}
+use Rattle.framing.proofs.OneRead.{reads-as, goes}
+use Rattle.order.specs.Order.{isBetween}
+use Rattle.order.specs.declared.Order.the-variants.{AfterData}
+use Rattle.index.specs.declared.line.Line.{Line}
+use Rattle.index.specs.Numbers.{endOf}
+use Rattle.index.specs.declared.numbers.End.{End}
+use Rattle.index.specs.declared.refusal.Outcome.the-variants as outcome
+use Rattle.index.specs.Bounds.{unlimited}
+use Rattle.index.specs.declared.bounds.Room.{Room}
+use Rattle.index.specs.Walk.{Reached, atStart, Judgement, Told, followed, walked}
+use Rattle.walk_laws.specs.Rows.{Not, First}
+use Rattle.walk_laws.specs.ExactlyWhen.{
+  rowsAfterRead,
+  RowsFull,
+  LinesFull,
+  section0,
+  section8,
+  behindHeader,
+  Unreadable,
+  Comes,
+  started,
+  further,
+  Given,
+  tooLong,
+  unread,
+  inputOver,
+  misjudged,
+  EndsClean,
+  between,
+}
+use Rattle.walk_laws.specs.Laws.{
+  Every,
+  numberAt,
+  EndPlacesAreEnds,
+  closers,
+  MessagesAreClosers,
+  FewerThanOctets,
+  WithinRoom,
+  UnlimitedIsNeverFull,
+  CleanInAnyRoom,
+  CleanIsUnlimited,
+}
+use Rattle.walk_laws.proofs.WholeWalk.{on, after, on-next, walked-on, walk-refused-exactly-when, walk-clean-exactly-when}
+use Rattle.walk_laws.proofs.Passing.{Way, within, goneFurther, shut, Left, nothing, oneLine, Passing, passing, halting}
+use Rattle.walk_laws.proofs.Induction.{each-stand, of-walk, gone}
+
+-- no more lines than sections, and one fewer inside a message
+pub record Ample (r : Reached) : Type 0 where
+  pub low : r .lines ≤ r .sections
+  pub inside : isBetween (r .order) ≡ false → r .lines + 1 ≤ r .sections
+
+ample-start : Ample atStart
+unfolding isBetween
+ample-start = record { low = omega arith; inside = λ e. let z : _≡_ {A = ℕ} 0 1 = cc in absurd (omega arith) }
+
+-- after 7 a message is open
+after-7 : (r : Reached) → Ample r → r .order ≡ AfterData → r .lines + 1 ≤ r .sections
+unfolding isBetween
+after-7 r ample e = ample .inside (rw e)
+
+ample-next : {room : Room} {r : Reached} {s : Section} {lines : List Line} {closed : ℕ} {reached : Reached}
+    → Passing room r s lines closed reached → Ample r → Ample reached
+ample-next {r = r} {reached = reached} p ample = go (p .way) (p .counted) (p .one)
+  where
+    go : {lines : List Line} {closed : ℕ} {s : Section} → Way r s lines closed reached → reached .lines ≡ r .lines + length lines
+        → reached .sections ≡ r .sections + 1 → Ample reached
+    go (within below ajar) counted one = let l = ample .low in record { low = omega arith; inside = λ e. omega arith }
+    go (goneFurther below ajar order end) counted one =
+        let l = after-7 r ample order in record { low = omega arith; inside = λ e. omega arith }
+    go (shut eight clean order end) counted one =
+        let l = after-7 r ample order in record { low = omega arith; inside = λ e. omega arith }
+
+-- at every stand
+pub comes-ample : {room : Room} {file : List ℕ} {at rest : ℕ} {r : Reached} → Comes room file at rest r → (r .sections ≤ at) × Ample r
+comes-ample started = (omega arith, ample-start)
+comes-ample {room} {file} (further {at} {rest} {r = r} {s = s} c e f) =
+    let k = comes-ample c in
+    let low = k .0 in
+    let forward = goes (reads-as file at rest e) in
+    let p = passing room r s f in
+    (omega arith, ample-next p (k .1))
+
+pub fewer-than-octets : FewerThanOctets
+fewer-than-octets room file = (
+  of-walk room file (λ t. length (t .sections) ≤ length file) (λ how. omega arith) (let k = sections 0 0 atStart in omega arith),
+  of-walk room file (λ t. length (t .lines) ≤ length (t .sections)) (λ how. omega arith)
+      (let k = lines 0 0 atStart ample-start in omega arith),
+)
+  where
+    sections : (at rest : ℕ) (r : Reached) → length (on room file at rest r .sections) ≤ length file - at
+    sections =
+        each-stand room file (λ at rest r t. length (t .sections) ≤ length file - at) (λ at rest r how same. omega arith)
+        (λ at rest r s c lines why e f. omega arith)
+        (λ at rest r s c lines closed reached later e f so. let forward = goes (reads-as file at rest e) in omega arith)
+
+    left : (r : Reached) (lines : List Line) → Ample r → Left r lines → r .lines + length lines ≤ r .sections + 0
+    left r _ ample nothing = let l = ample .low in omega arith
+    left r _ ample (oneLine order end) = let l = after-7 r ample order in omega arith
+
+    lines : (at rest : ℕ) (r : Reached) → Ample r
+        → r .lines + length (on room file at rest r .lines) ≤ r .sections + length (on room file at rest r .sections)
+    lines =
+        each-stand room file (λ at rest r t. Ample r → r .lines + length (t .lines) ≤ r .sections + length (t .sections))
+        (λ at rest r how same ample. let l = ample .low in omega arith)
+        (λ at rest r s c lines why e f ample. left r lines ample (halting room r s f .told))
+        (λ at rest r s c lines closed reached later e f so ample.
+        let p = passing room r s f in
+        let ih = so (ample-next p ample) in
+        let sum = length-append lines (later .lines) in
+        omega arith)
+
+pub within-room : WithinRoom
+within-room room file = (
+  of-walk room file (λ t. length (t .sections) ≤ room .rows) (λ how. omega arith)
+      (let k = sections 0 0 atStart (omega arith) in omega arith),
+  of-walk room file (λ t. length (t .lines) ≤ room .lines) (λ how. omega arith)
+      (let k = lines 0 0 atStart (omega arith) in omega arith),
+)
+  where
+    sections : (at rest : ℕ) (r : Reached) → r .sections ≤ room .rows
+        → r .sections + length (on room file at rest r .sections) ≤ room .rows
+    sections =
+        each-stand room file (λ at rest r t. r .sections ≤ room .rows → r .sections + length (t .sections) ≤ room .rows)
+        (λ at rest r how same h. omega arith)
+        (λ at rest r s c lines why e f h. omega arith)
+        (λ at rest r s c lines closed reached later e f so h.
+        let p = passing room r s f in
+        let row = p .row in
+        let one = p .one in
+        let ih = so (omega arith) in
+        omega arith)
+
+    lines : (at rest : ℕ) (r : Reached) → r .lines ≤ room .lines → r .lines + length (on room file at rest r .lines) ≤ room .lines
+    lines =
+        each-stand room file (λ at rest r t. r .lines ≤ room .lines → r .lines + length (t .lines) ≤ room .lines)
+        (λ at rest r how same h. omega arith)
+        (λ at rest r s c lines why e f h. halting room r s f .held h)
+        (λ at rest r s c lines closed reached later e f so h.
+        let p = passing room r s f in
+        let ih = so (p .held h) in
+        let counted = p .counted in
+        let sum = length-append lines (later .lines) in
+        omega arith)
+
+-- a line's end, among sections that are told from a place on
+abbrev EndsIn : ℕ → List Section → Line → Type 0
+EndsIn from sections line = (line .end .0 ≡ 0) ⊎ ((from ≤ line .end .0) × (numberAt sections (line .end .0 - from) ≡ 8))
+
+every-map : {A : Type 0} {So Then : A → Type 0} (l : List A) → ((a : A) → So a → Then a) → Every So l → Every Then l
+every-map [] f h = tt
+every-map (a ∷ l) f h = (f a (h .0), every-map l f (h .1))
+
+one-earlier : (from : ℕ) (s : Section) (sections : List Section) (line : Line) → EndsIn (from + 1) sections line
+    → EndsIn from (s ∷ sections) line
+one-earlier from s sections line (inl e) = inl e
+one-earlier from s sections line (inr (low, eight)) =
+    let e : suc (line .end .0 - (from + 1)) ≡ line .end .0 - from = omega arith in
+    inr (omega arith, subst (λ (k : ℕ). numberAt (s ∷ sections) k ≡ 8) e eight)
+
+pub end-places-are-ends : EndPlacesAreEnds
+end-places-are-ends room file =
+    of-walk room file (λ t. Every (λ line. (line .end .0 ≡ 0) ⊎ (numberAt (t .sections) (line .end .0) ≡ 8)) (t .lines)) (λ how. tt)
+    (every-map (on room file 0 0 atStart .lines) at-0
+    (each-stand room file (λ at rest r t. Every (EndsIn (r .sections) (t .sections)) (t .lines)) (λ at rest r how same. tt)
+    (λ at rest r s c lines why e f. left r lines (halting room r s f .told))
+    (λ at rest r s c lines closed reached later e f so.
+    let p = passing room r s f in
+    go r s lines closed reached (p .way) later
+    (every-map (later .lines) (one-earlier (r .sections) s (later .sections))
+    (subst (λ (k : ℕ). Every (EndsIn k (later .sections)) (later .lines)) (p .one) so)))
+    0 0 atStart))
+  where
+    at-0 : (line : Line) → EndsIn 0 (on room file 0 0 atStart .sections) line
+        → (line .end .0 ≡ 0) ⊎ (numberAt (on room file 0 0 atStart .sections) (line .end .0) ≡ 8)
+    at-0 line (inl e) = inl e
+    at-0 line (inr (low, eight)) = inr (rw sub-zero at eight)
+
+    left : (r : Reached) (lines : List Line) → Left r lines → Every (EndsIn (r .sections) []) lines
+    left r _ nothing = tt
+    left r _ (oneLine order end) = (inl (ap (λ p. p .0) end), tt)
+
+    go : (r : Reached) (s : Section) (lines : List Line) (closed : ℕ) (reached : Reached) → Way r s lines closed reached → (later : Told)
+        → Every (EndsIn (r .sections) (s ∷ later .sections)) (later .lines)
+        → Every (EndsIn (r .sections) (s ∷ later .sections)) (lines ++ later .lines)
+    go r s _ _ _ (within below ajar) later so = so
+    go r s _ _ _ (goneFurther below ajar order end) later so = (inl (ap (λ p. p .0) end), so)
+    go r s _ _ _ (shut {line} eight clean order end) later so =
+        let here : line .end .0 ≡ r .sections = ap (λ p. p .0) end in
+        let zeroth : line .end .0 - r .sections ≡ 0 = omega arith in
+        (inr (omega arith, subst (λ (k : ℕ). numberAt (s ∷ later .sections) k ≡ 8) (sym zeroth) eight), so)
+
+pub messages-are-closers : MessagesAreClosers
+messages-are-closers room file =
+    of-walk room file (λ t. t .messages ≡ closers (t .lines)) (λ how. refl)
+    (each-stand room file (λ at rest r t. Ample r → t .messages ≡ closers (t .lines)) (λ at rest r how same ample. refl)
+    (λ at rest r s c lines why e f ample. left r lines (halting room r s f .told))
+    (λ at rest r s c lines closed reached later e f so ample.
+    let p = passing room r s f in go r s lines closed reached ample (p .way) later (so (ample-next p ample))) 0 0 atStart ample-start)
+  where
+    left : (r : Reached) (lines : List Line) → Left r lines → 0 ≡ closers lines
+    left r _ nothing = refl
+    left r _ (oneLine {line} order end) = rw (eq-eqb (line .end .0) 0 (ap (λ p. p .0) end))
+
+    go : (r : Reached) (s : Section) (lines : List Line) (closed : ℕ) (reached : Reached) → Ample r → Way r s lines closed reached
+        → (later : Told) → later .messages ≡ closers (later .lines) → closed + later .messages ≡ closers (lines ++ later .lines)
+    go r s _ _ _ ample (within below ajar) later so = omega arith
+    go r s _ _ _ ample (goneFurther {line} below ajar order end) later so =
+        rw (eq-eqb (line .end .0) 0 (ap (λ p. p .0) end), so)
+    go r s _ _ _ ample (shut {line} eight clean order end) later so =
+        let here : line .end .0 ≡ r .sections = ap (λ p. p .0) end in
+        let some = after-7 r ample order in
+        rw (ne-eqb (line .end .0) 0 (λ z. omega arith), so)
+
+-- a row of the tables is first where they are full
+full : (room : Room) (r : Reached) (s : Section) (n d : ℕ) → First (rowsAfterRead room r s) n d
+    → (n ≡ 13 → RowsFull room r) × (n ≡ 14 → LinesFull room r)
+full room r s n d (inl (h, e, f)) = ((λ z. absurd (omega arith)), λ z. h .1)
+full room r s n d (inr (_, inl (h, e, f))) = ((λ z. absurd (omega arith)), λ z. absurd (omega arith))
+full room r s n d (inr (_, inr (_, inl (h, e, f)))) = ((λ z. absurd (omega arith)), λ z. absurd (omega arith))
+full room r s n d (inr (_, inr (_, inr (_, inl (h, e, f))))) = ((λ z. h), λ z. absurd (omega arith))
+full room r s n d (inr (_, inr (_, inr (_, inr (_, inl (h, e, f)))))) = ((λ z. absurd (omega arith)), λ z. h .1)
+full room r s n d (inr (_, inr (_, inr (_, inr (_, inr (_, h)))))) = absurd h
+
+-- no read is refused by a row of the tables
+pub to-9 : (file : List ℕ) (at rest n o d : ℕ) → Unreadable file at rest n o d → n ≤ 9
+to-9 file at rest n o d (section0 z first (here, inl (h, e, f))) = omega arith
+to-9 file at rest n o d (section0 z first (here, inr (_, inl (h, e, f)))) = omega arith
+to-9 file at rest n o d (section0 z first (here, inr (_, inr (_, h)))) = absurd h
+to-9 file at rest n o d (section8 z i (here, inl (h, e, f))) = omega arith
+to-9 file at rest n o d (section8 z i (here, inr (_, inl (h, e, f)))) = omega arith
+to-9 file at rest n o d (section8 z i (here, inr (_, inr (_, h)))) = absurd h
+to-9 file at rest n o d (behindHeader a b i (here, inl (h, e, f))) = omega arith
+to-9 file at rest n o d (behindHeader a b i (here, inr (_, inl (h, e, f)))) = omega arith
+to-9 file at rest n o d (behindHeader a b i (here, inr (_, inr (_, inl (h, e, f))))) = omega arith
+to-9 file at rest n o d (behindHeader a b i (here, inr (_, inr (_, inr (_, inl (h, e, f)))))) = omega arith
+to-9 file at rest n o d (behindHeader a b i (here, inr (_, inr (_, inr (_, inr (_, inl (h, e, f))))))) = omega arith
+to-9 file at rest n o d (behindHeader a b i (here, inr (_, inr (_, inr (_, inr (_, inr (_, inl (h, e, f)))))))) = omega arith
+to-9 file at rest n o d (behindHeader a b i (here, inr (_, inr (_, inr (_, inr (_, inr (_, inr (_, h)))))))) = absurd h
+
+never : (file : List ℕ) (n p o d : ℕ) → Given unlimited file n p o d → Not (n ≡ 13) × Not (n ≡ 14)
+never file _ _ _ _ (tooLong long) = ((λ z. omega arith), λ z. omega arith)
+never file n _ o d (unread {at} {rest} short c u) = let k = to-9 file at rest n o d u in ((λ z. omega arith), λ z. omega arith)
+never file _ _ _ _ (inputOver short c none other) = ((λ z. omega arith), λ z. omega arith)
+never file n _ _ d (misjudged {at} {rest} {r = r} {s} short c e row) =
+    let k = comes-ample c in
+    let few = k .0 in
+    let fewer = k .1 .low in
+    let forward = goes (reads-as file at rest e) in
+    let rows = full unlimited r s n d row in
+    ((λ z. let h = rows .0 z in omega arith), λ z. let h = rows .1 z in omega arith)
+
+pub unlimited-is-never-full : UnlimitedIsNeverFull
+unlimited-is-never-full file = ((λ e. so 13 (λ z. omega arith) e .0 refl), λ e. so 14 (λ z. omega arith) e .1 refl)
+  where
+    end : End
+    end = endOf (walked unlimited file .outcome)
+
+    so : (n : ℕ) → Not (n ≡ 0) → end .outcome ≡ n → Not (n ≡ 13) × Not (n ≡ 14)
+    so n some e =
+        never file n (end .place) (end .offset) (end .detail)
+        (walk-refused-exactly-when unlimited file n (end .place) (end .offset) (end .detail) some .0 (rw e))
+
+-- a clean walk in another room
+clean-anywhere : (room other : Room) (file : List ℕ) (at rest : ℕ) (r : Reached) → on room file at rest r .outcome ≡ outcome.Clean
+    → r .sections + length (on room file at rest r .sections) ≤ other .rows
+    → r .lines + length (on room file at rest r .lines) ≤ other .lines → on other file at rest r ≡ on room file at rest r
+clean-anywhere room other file =
+    each-stand room file
+    (λ at rest r t. t .outcome ≡ outcome.Clean → r .sections + length (t .sections) ≤ other .rows
+    → r .lines + length (t .lines) ≤ other .lines → on other file at rest r ≡ t)
+    (λ at rest r how same clean a b. same other)
+    (λ at rest r s c lines why e f clean a b. let z : _≡_ {A = ℕ} 0 1 = cc in absurd (omega arith))
+    (λ at rest r s c lines closed reached later e f so clean a b.
+    let p = passing room r s f in
+    let one = p .one in
+    let counted = p .counted in
+    let sum = length-append lines (later .lines) in
+    let here = p .anywhere other (omega arith) (omega arith) in
+    on-next other file at rest r
+    ∙ ap (λ (x : Read). after other file r x) e
+    ∙ ap (λ (j : Judgement). followed r s j (λ reached. on other file (c .at .0) (c .rest) reached)) here
+    ∙ ap (gone s lines closed) (so clean (omega arith) (omega arith)))
+
+pub clean-in-any-room : CleanInAnyRoom
+unfolding walked
+clean-in-any-room room other file clean rows lines = go (ltb 1099511627776 (length file)) refl
+  where
+    go : (t : Bool) → ltb 1099511627776 (length file) ≡ t → walked other file ≡ walked room file
+    go true long = rw long
+    go false fits =
+        let short = ltb-false 1099511627776 (length file) fits in
+        let here = walked-on room file short in
+        walked-on other file short
+        ∙ clean-anywhere room other file 0 0 atStart (subst (λ (t : Told). t .outcome ≡ outcome.Clean) here clean)
+        (let k = subst (λ (t : Told). length (t .sections) ≤ other .rows) here rows in omega arith)
+        (let k = subst (λ (t : Told). length (t .lines) ≤ other .lines) here lines in omega arith)
+        ∙ sym here
+
+pub clean-is-unlimited : CleanIsUnlimited
+clean-is-unlimited room file clean =
+    let few = fewer-than-octets room file in
+    let rows = few .0 in
+    let lines = few .1 in
+    let short = clean-short room file clean in
+    clean-in-any-room room unlimited file clean (omega arith) (omega arith)
+  where
+    clean-short : (room : Room) (file : List ℕ) → walked room file .outcome ≡ outcome.Clean → length file ≤ 1099511627776
+    clean-short room file clean = short-of (walk-clean-exactly-when room file .0 clean)
+      where
+        short-of : EndsClean room file → length file ≤ 1099511627776
+        short-of (between short c none e) = short

@@ -1,0 +1,326 @@
+-- A read is refused, good or over exactly when the rows of the section in hand say so. Assumes nothing.
+use Prim.Native.Nat.{ℕ, _+_, _≤_, _<_}
+use native.Mathlib.Omega.{arith}
+use mathlib.Core.Path.{_≡_, refl, sym, subst, _∙_}
+use mathlib.Core.Bool.{Bool, true, false, not, _&&_, _||_}
+use mathlib.Core.List.{List}
+use mathlib.Core.Logic.{_⊎_, inl, inr}
+use lib.Dec.{ltb, leb, eqb}
+use lib.ListN.{length}
+use borrow.Author.Tests.{ltb-true, ltb-false, leb-true, leb-false, eqb-true, eqb-false, eq-eqb, ne-eqb}
+use Rattle.sections.specs.Kinds.{leastPayloadOf, leastIn, kindOf, kinds}
+use Rattle.sections.specs.declared.kinds.LeastPayload.{LeastPayload}
+use Rattle.sections.specs.declared.kinds.LeastPayload.the-variants.{Octets, NoHeader}
+use Rattle.sections.specs.declared.kinds.MaybeKind.{MaybeKind}
+use Rattle.framing.specs.Search.{says, IsNextStart, nextStart}
+use Rattle.framing.specs.Framing.{refused, indicatorAt, endAt, isCut, payloadAt, headerAt, messageAt, readAt}
+use Rattle.framing.specs.declared.search.Found.{Found}
+use Rattle.framing.specs.declared.search.Found.the-variants.{At, Nowhere}
+use Rattle.framing.specs.declared.read.Section.{Section as Listed}
+use Rattle.framing.specs.declared.read.Cursor.{Cursor}
+use Rattle.framing.specs.declared.read.Fault.{Fault}
+use Rattle.framing.specs.Read.{Read}
+use Rattle.framing.specs.Read.{Section, Over}
+use Rattle.framing.proofs.Tests.{by-test, and-both, and-of, or-neither}
+use Rattle.framing.proofs.NextStart.{next-start-first, next-start-is}
+use Rattle.index.specs.Numbers.{faultNumber, faultDetail}
+use Rattle.walk_laws.specs.Rows.{Not, Rows, First}
+use Rattle.walk_laws.specs.ExactlyWhen.{
+  left,
+  edition,
+  total,
+  rows0,
+  NotSevens,
+  len,
+  number,
+  payload,
+  PayloadCut,
+  Under,
+  rowsBehindHeader,
+  InHand,
+  section0,
+  section8,
+  behindHeader,
+  NoneInHand,
+  noStart,
+  noOctet,
+  Unreadable,
+  WellRead,
+  ReadRefused,
+  ReadWell,
+  RefusedExactlyWhen,
+  ReadExactlyWhen,
+  OverExactlyWhen,
+}
+use Rattle.walk_laws.proofs.Rows.{first-same, first-holds}
+
+-- what holds of any offset and rows holds of the section in hand
+pub in-hand : {file : List ℕ} {at rest : ℕ} {So : ℕ → Rows → Type 0} {A : Type 0}
+    → InHand file at rest So → ((o : ℕ) (rows : Rows) → So o rows → A) → A
+in-hand {at = at} (section0 {g} p q so) then = then g _ so
+in-hand {at = at} (section8 p q so) then = then at _ so
+in-hand {at = at} (behindHeader p q i so) then = then at _ so
+
+module _ (file : List ℕ) (at rest : ℕ) where
+  -- there is one section in hand
+  module _ (P Q : ℕ → Rows → Type 0) where
+    pub both : InHand file at rest P → InHand file at rest Q → InHand file at rest (λ o rows. P o rows × Q o rows)
+    both (section0 {g} z first p) (section0 {g = g′} z′ first′ q) =
+        let e : At g′ ≡ At g = next-start-is file at (At g′) first′ ∙ sym (next-start-is file at (At g) first) in
+        let same : g′ ≡ g = cc in
+        section0 z first (p, subst (λ (x : ℕ). Q x (rows0 file x)) same q)
+    both (section0 z first p) (section8 z′ i q) = absurd (omega arith)
+    both (section0 z first p) (behindHeader a b i q) = absurd (a z)
+    both (section8 z i p) (section0 z′ first q) = absurd (omega arith)
+    both (section8 z i p) (section8 z′ i′ q) = section8 z i (p, q)
+    both (section8 z i p) (behindHeader a b i′ q) = absurd (b z)
+    both (behindHeader a b i p) (section0 z first q) = absurd (a z)
+    both (behindHeader a b i p) (section8 z i′ q) = absurd (b z)
+    both (behindHeader a b i p) (behindHeader a′ b′ i′ q) = behindHeader a b i (p, q)
+
+  -- or none
+  pub none-there : (So : ℕ → Rows → Type 0) → InHand file at rest So → NoneInHand file at rest → ⊥
+  none-there So (section0 {g} z first p) (noStart z′ none) = none g (first .0) (first .1)
+  none-there So (section0 z first p) (noOctet a i) = a z
+  none-there So (section8 z i p) (noStart z′ none) = omega arith
+  none-there So (section8 z i p) (noOctet a i′) = omega arith
+  none-there So (behindHeader a b i p) (noStart z none) = a z
+  none-there So (behindHeader a b i p) (noOctet a′ i′) = omega arith
+
+  pub same-refusal : (n o d n′ o′ d′ : ℕ) → Unreadable file at rest n o d → Unreadable file at rest n′ o′ d′
+      → (n ≡ n′) × (o ≡ o′) × (d ≡ d′)
+  same-refusal n o d n′ o′ d′ p q =
+      in-hand (both _ _ p q)
+      (λ here rows so. let s = first-same rows n d n′ d′ (so .0 .1) (so .1 .1) in (s .0, so .0 .0 ∙ sym (so .1 .0), s .1))
+
+  pub never-well : (n o d o′ : ℕ) → Unreadable file at rest n o d → WellRead file at rest o′ → ⊥
+  never-well n o d o′ p q = in-hand (both _ _ p q) (λ here rows so. first-holds rows n d (so .0 .1) (so .1 .1))
+
+  pub same-offset : (o o′ : ℕ) → WellRead file at rest o → WellRead file at rest o′ → o ≡ o′
+  same-offset o o′ p q = in-hand (both _ _ p q) (λ here rows so. so .0 .0 ∙ sym (so .1 .0))
+
+-- the sections with a header are 1 to 7
+data Headed (n : ℕ) : LeastPayload → Type 0 where
+  headed : {least : ℕ} → 1 ≤ n → n ≤ 7 → Headed n (Octets least)
+  bare : Not ((1 ≤ n) × (n ≤ 7)) → Headed n NoHeader
+
+by-kind : (n : ℕ) → Headed n (leastPayloadOf n)
+unfolding leastPayloadOf kindOf kinds
+by-kind n =
+    by-test H (eqb n 0) (λ e. let z = eqb-true n 0 e in bare (λ h. omega (arith, h .0))) λ e0.
+    by-test H (eqb n 1) (λ e. let z = eqb-true n 1 e in headed (omega arith) (omega arith)) λ e1.
+    by-test H (eqb n 2) (λ e. let z = eqb-true n 2 e in headed (omega arith) (omega arith)) λ e2.
+    by-test H (eqb n 3) (λ e. let z = eqb-true n 3 e in headed (omega arith) (omega arith)) λ e3.
+    by-test H (eqb n 4) (λ e. let z = eqb-true n 4 e in headed (omega arith) (omega arith)) λ e4.
+    by-test H (eqb n 5) (λ e. let z = eqb-true n 5 e in headed (omega arith) (omega arith)) λ e5.
+    by-test H (eqb n 6) (λ e. let z = eqb-true n 6 e in headed (omega arith) (omega arith)) λ e6.
+    by-test H (eqb n 7) (λ e. let z = eqb-true n 7 e in headed (omega arith) (omega arith)) λ e7.
+    let other = bare (above e0 e1 e2 e3 e4 e5 e6 e7) in
+    by-test H (eqb n 8) (λ e. other) λ e. other
+  where
+    H : MaybeKind → Type 0
+    H kind = Headed n (leastIn kind)
+
+    above : eqb n 0 ≡ false → eqb n 1 ≡ false → eqb n 2 ≡ false → eqb n 3 ≡ false → eqb n 4 ≡ false → eqb n 5 ≡ false
+        → eqb n 6 ≡ false → eqb n 7 ≡ false → Not ((1 ≤ n) × (n ≤ 7))
+    above e0 e1 e2 e3 e4 e5 e6 e7 h =
+        let a : 2 ≤ n = more 1 (h .0) e1 in
+        let b : 3 ≤ n = more 2 a e2 in
+        let c : 4 ≤ n = more 3 b e3 in
+        let d : 5 ≤ n = more 4 c e4 in
+        let f : 6 ≤ n = more 5 d e5 in
+        let g : 7 ≤ n = more 6 f e6 in
+        let k : 8 ≤ n = more 7 g e7 in
+        omega (arith, h .1)
+      where
+        more : (k : ℕ) → k ≤ n → eqb n k ≡ false → k + 1 ≤ n
+        more k low e = let other = eqb-false n k e in omega arith
+
+-- "7777" by the test
+sevens : (file : List ℕ) (at : ℕ) → says file at 55 55 55 55 ≡ true → Not (NotSevens file at)
+unfolding says
+sevens file at e =
+    let c = and-both _ _ e in
+    let b = and-both _ _ (c .0) in
+    let a = and-both _ _ (b .0) in
+    λ other. other (eqb-true _ _ (a .0), eqb-true _ _ (a .1), eqb-true _ _ (b .1), eqb-true _ _ (c .1))
+
+not-sevens : (file : List ℕ) (at : ℕ) → says file at 55 55 55 55 ≡ false → NotSevens file at
+unfolding says
+not-sevens file at e h =
+    let t : says file at 55 55 55 55 ≡ true =
+    and-of (and-of (and-of (eq-eqb _ _ (h .0)) (eq-eqb _ _ (h .1))) (eq-eqb _ _ (h .2))) (eq-eqb _ _ (h .3)) in
+    let z : true ≡ false = sym t ∙ e in
+    let y : _≡_ {A = ℕ} 0 1 = cc in
+    omega arith
+
+-- all that a read can be
+pub data Tells (file : List ℕ) (at rest : ℕ) : Read → Type 0 where
+  refuses : {fault : Fault} {o : ℕ} → Unreadable file at rest (faultNumber fault) o (faultDetail fault)
+      → Tells file at rest (refused fault o)
+  reads : {s : Listed} {next : Cursor} → WellRead file at rest (s .offset .0) → Tells file at rest (Section s next)
+  over : NoneInHand file at rest → Tells file at rest Over
+
+-- the payload is cut where the test says so, of a section 1 to 7 with its whole header in the file
+cut-is : (n l m : ℕ) → isCut n l m ≡ true → 5 ≤ m → 5 ≤ l → n ≤ 7
+    → (n ≤ 6) × ((m < l) ⊎ ((n ≡ 6) × (l ≡ 5) × (m ≡ 5)))
+unfolding isCut
+cut-is n l m e l5 n5 hi = go (eqb n 7) (ltb m l) refl refl e
+  where
+    go : (b c : Bool) → eqb n 7 ≡ b → ltb m l ≡ c → (not b && (c || (eqb n 6 && ltb m 6))) ≡ true
+        → (n ≤ 6) × ((m < l) ⊎ ((n ≡ 6) × (l ≡ 5) × (m ≡ 5)))
+    go true c p q h = let y : _≡_ {A = ℕ} 0 1 = cc in absurd (omega arith)
+    go false true p q h = let other = eqb-false n 7 p in (omega arith, inl (ltb-true m l q))
+    go false false p q h =
+        let six = and-both _ _ h in
+        let a = eqb-true n 6 (six .0) in
+        let b = ltb-true m 6 (six .1) in
+        let c = ltb-false m l q in
+        (omega arith, inr (a, omega arith, omega arith))
+
+whole-is : (n l m : ℕ) → isCut n l m ≡ false
+    → Not ((n ≤ 6) × ((m < l) ⊎ ((n ≡ 6) × (l ≡ 5) × (m ≡ 5))))
+unfolding isCut
+whole-is n l m e (low, why) = go (rw (ne-eqb n 7 (λ z. omega arith)) at e) why
+  where
+    go : (ltb m l || (eqb n 6 && ltb m 6)) ≡ false → (m < l) ⊎ ((n ≡ 6) × (l ≡ 5) × (m ≡ 5)) → ⊥
+    go f (inl h) = let k = ltb-false m l (or-neither _ _ f .0) in omega arith
+    go f (inr (six, size, ends)) =
+        let k = or-neither (ltb m l) (eqb n 6 && ltb m 6) f .1 in
+        let y : ltb m 6 ≡ false = rw (eq-eqb n 6 six) at k in
+        let z = ltb-false m 6 y in
+        omega arith
+
+module _ (file : List ℕ) (at rest : ℕ) where
+  abbrev T : Read → Type 0
+  T = Tells file at rest
+
+  tells-indicator : (g : ℕ) → rest ≡ 0 → IsNextStart file at (At g) → T (indicatorAt file g)
+  unfolding indicatorAt faultNumber faultDetail
+  tells-indicator g z first =
+      by-test T (not (eqb (edition file g) 2)) (λ e. refuses (section0 z first (refl, inl (not-true _ _ e, refl, refl)))) λ e.
+      let same = not-false _ _ e in
+      by-test T (ltb (total file g) 16)
+      (λ e. refuses (section0 z first (refl, inr ((λ other. other same), inl (ltb-true _ _ e, refl, refl))))) λ e.
+      reads (section0 z first (refl, ((λ other. other same), ((λ under. let k = ltb-false (total file g) 16 e in omega arith), tt))))
+    where
+      not-true : (a b : ℕ) → not (eqb a b) ≡ true → Not (a ≡ b)
+      not-true a b e same = let y : _≡_ {A = ℕ} 0 1 = cc (eq-eqb a b same) in omega arith
+
+      not-false : (a b : ℕ) → not (eqb a b) ≡ false → a ≡ b
+      not-false a b e = go (eqb a b) refl e
+        where
+          go : (t : Bool) → eqb a b ≡ t → not t ≡ false → a ≡ b
+          go true p q = eqb-true a b p
+          go false p q = let y : _≡_ {A = ℕ} 0 1 = cc in absurd (omega arith)
+
+  tells-message : (found : Found) → rest ≡ 0 → IsNextStart file at found → T (messageAt file found)
+  unfolding messageAt
+  tells-message (At g) z first = tells-indicator g z first
+  tells-message Nowhere z none = over (noStart z none)
+
+  module _ (inside : at < length file) where
+    tells-end : rest ≡ 4 → T (endAt file at)
+    unfolding endAt faultNumber faultDetail
+    tells-end last =
+        by-test T (ltb (left file at) 4)
+        (λ e.
+        let k = ltb-true (left file at) 4 e in
+        refuses (section8 last inside (refl, inl ((omega arith, omega arith), refl, refl)))) λ e.
+        let no2 : Not ((1 ≤ left file at) × (left file at ≤ 3)) = λ h. let k = ltb-false (left file at) 4 e in omega (arith, h .1) in
+        by-test T (says file at 55 55 55 55)
+        (λ e. reads (section8 last inside (refl, (no2, (sevens file at e, tt))))) λ e.
+        refuses (section8 last inside (refl, inr (no2, inl (not-sevens file at e, refl, refl))))
+
+    module _ (within : Not (rest ≡ 0)) (not-last : Not (rest ≡ 4)) where
+      refuses-here : (fault : Fault) → First (rowsBehindHeader file at rest) (faultNumber fault) (faultDetail fault) → T (refused fault at)
+      refuses-here fault first = refuses (behindHeader within not-last inside (refl, first))
+
+      tells-payload : (least : LeastPayload) → leastPayloadOf (number file at) ≡ least → Headed (number file at) least
+          → 5 ≤ left file at → 5 ≤ len file at
+          → T (payloadAt least at (number file at) (len file at) (left file at) rest)
+      unfolding payloadAt faultNumber faultDetail
+      tells-payload NoHeader kind (bare other) l5 n5 =
+          refuses-here _ (inr ((λ h. omega (arith, h .1)), inr ((λ h. omega arith), inl (other, refl, refl))))
+      tells-payload (Octets least) kind (headed low high) l5 n5 =
+          let no2 : Not ((1 ≤ left file at) × (left file at ≤ 4)) = λ h. omega (arith, h .1) in
+          let no6 : Not (len file at < 5) = λ h. omega arith in
+          let no7 : Not (Not ((1 ≤ number file at) × (number file at ≤ 7))) = λ h. h (low, high) in
+          by-test T (isCut (number file at) (len file at) (left file at))
+          (λ e.
+          let c = cut-is _ _ _ e l5 n5 high in
+          refuses-here _ (inr (no2, inr (no6, inr (no7, inl ((low, c .0, c .1), refl, refl)))))) λ e.
+          let no2′ : Not (PayloadCut file at) = λ h. whole-is _ _ _ e (h .1, h .2) in
+          by-test T (ltb (payload file at) least)
+          (λ e. refuses-here _ (inr (no2, inr (no6, inr (no7, inr (no2′, inl (rw kind (ltb-true _ _ e), refl, refl))))))) λ e.
+          let no8 : Not (Under (leastPayloadOf (number file at)) (payload file at)) =
+          rw kind (λ h. let k = ltb-false (payload file at) least e in omega arith) in
+          by-test T (ltb rest (len file at))
+          (λ e. refuses-here _ (inr (no2, inr (no6, inr (no7, inr (no2′, inr (no8, inl (ltb-true _ _ e, refl, refl)))))))) λ e.
+          let no9 : Not (rest < len file at) = λ h. let k = ltb-false rest (len file at) e in omega arith in
+          reads (behindHeader within not-last inside (refl, (no2, (no6, (no7, (no2′, (no8, (no9, tt))))))))
+
+      tells-header : T (headerAt file at rest)
+      unfolding headerAt faultNumber faultDetail
+      tells-header =
+          by-test T (ltb (left file at) 5)
+          (λ e. let k = ltb-true (left file at) 5 e in refuses-here _ (inl ((omega arith, omega arith), refl, refl))) λ e.
+          let l5 = ltb-false (left file at) 5 e in
+          by-test T (ltb (len file at) 5)
+          (λ e. refuses-here _ (inr ((λ h. omega (arith, h .1)), inl (ltb-true _ _ e, refl, refl)))) λ e.
+          tells-payload (leastPayloadOf (number file at)) refl (by-kind (number file at)) l5 (ltb-false _ _ e)
+
+  pub tells : T (readAt file at rest)
+  unfolding readAt
+  tells =
+      by-test T (eqb rest 0) (λ e. tells-message (nextStart file at) (eqb-true _ _ e) (next-start-first file at)) λ within.
+      let some = eqb-false rest 0 within in
+      by-test T (leb (length file) at) (λ e. over (noOctet some (leb-true _ _ e))) λ e.
+      let inside = leb-false (length file) at e in
+      by-test T (eqb rest 4) (λ e. tells-end inside (eqb-true _ _ e)) λ e. tells-header inside some (eqb-false rest 4 e)
+
+-- constructors of a read told apart
+pub refused-exactly-when : RefusedExactlyWhen
+refused-exactly-when file at rest n o d = (there, back (readAt file at rest) refl (tells file at rest))
+  where
+    there : ReadRefused file at rest n o d → Unreadable file at rest n o d
+    there h = go (subst (Tells file at rest) (h .refuses) (tells file at rest))
+      where
+        go : Tells file at rest (refused (h .fault) o) → Unreadable file at rest n o d
+        go (refuses u) = rw (h .numbered, h .detailed) u
+
+    back : (r : Read) → readAt file at rest ≡ r → Tells file at rest r → Unreadable file at rest n o d → ReadRefused file at rest n o d
+    back _ e (refuses {fault} {o = o′} u) v =
+        let same = same-refusal file at rest n o d (faultNumber fault) o′ (faultDetail fault) v u in
+        record { fault = fault; refuses = rw (same .1) e; numbered = same .0; detailed = same .2 }
+    back _ e (reads {s} w) v = absurd (never-well file at rest n o d (s .offset .0) v w)
+    back _ e (over z) v = absurd (none-there file at rest _ v z)
+
+pub read-exactly-when : ReadExactlyWhen
+read-exactly-when file at rest o = (there, back (readAt file at rest) refl (tells file at rest))
+  where
+    there : ReadWell file at rest o → WellRead file at rest o
+    there h = go (subst (Tells file at rest) (h .reads) (tells file at rest))
+      where
+        go : Tells file at rest (Section (h .section) (h .next)) → WellRead file at rest o
+        go (reads w) = rw (h .there) w
+
+    back : (r : Read) → readAt file at rest ≡ r → Tells file at rest r → WellRead file at rest o → ReadWell file at rest o
+    back _ e (refuses {fault} {o = o′} u) v = absurd (never-well file at rest (faultNumber fault) o′ (faultDetail fault) o u v)
+    back _ e (reads {s} {next} w) v =
+        record { section = s; next = next; reads = e; there = same-offset file at rest o (s .offset .0) v w }
+    back _ e (over z) v = absurd (none-there file at rest _ v z)
+
+pub over-exactly-when : OverExactlyWhen
+over-exactly-when file at rest = (there, back (readAt file at rest) refl (tells file at rest))
+  where
+    there : readAt file at rest ≡ Over → NoneInHand file at rest
+    there h = go (subst (Tells file at rest) h (tells file at rest))
+      where
+        go : Tells file at rest Over → NoneInHand file at rest
+        go (over z) = z
+
+    back : (r : Read) → readAt file at rest ≡ r → Tells file at rest r → NoneInHand file at rest → readAt file at rest ≡ Over
+    back _ e (refuses u) v = absurd (none-there file at rest _ u v)
+    back _ e (reads w) v = absurd (none-there file at rest _ w v)
+    back _ e (over z) v = e

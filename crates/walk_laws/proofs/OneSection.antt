@@ -1,0 +1,183 @@
+-- A well-read section stops the walk or is passed exactly when its rows say so. Assumes nothing.
+use Prim.Native.Nat.{ℕ}
+use native.Mathlib.Omega.{arith}
+use mathlib.Core.Path.{_≡_, refl, subst}
+use mathlib.Core.Bool.{false}
+use mathlib.Core.List.{List, []}
+use mathlib.Core.Logic.{inl, inr, ⊎-elim}
+use lib.Dec.{leb, eqb}
+use borrow.Author.Tests.{leb-true, leb-false, eqb-true, eqb-false}
+use Rattle.octets.specs.Choice.{pick}
+use Rattle.framing.specs.declared.read.Section.{Section}
+use Rattle.framing.proofs.Tests.{by-test, never-both}
+use Rattle.order.specs.Order.{judged, completes}
+use Rattle.order.specs.declared.Order.{Order}
+use Rattle.order.specs.declared.Order.the-variants.{
+  BetweenMessages,
+  AfterIndicator,
+  AfterIdentification,
+  AfterLocalUse,
+  AfterGrid,
+  AfterProduct,
+  AfterRepresentation,
+  AfterBitMap,
+  AfterData,
+  SubmessageStart,
+}
+use Rattle.order.specs.declared.Judged.{Judged}
+use Rattle.order.specs.declared.Judged.the-variants as says
+use Rattle.order.proofs.Laws.{completes-only, completes-there, starts-next}
+use Rattle.index.specs.declared.line.Line.{Line}
+use Rattle.index.specs.Numbers.{refusalNumber, refusalDetail}
+use Rattle.index.specs.declared.refusal.Refusal.{Refusal}
+use Rattle.index.specs.declared.bounds.Room.{Room}
+use Rattle.index.specs.Walk.{Reached, Judgement, stops, passes, fitted, closing, byOrder, goneOn, judgement}
+use Rattle.walk_laws.specs.Rows.{Not, First, NoRow}
+use Rattle.walk_laws.specs.ExactlyWhen.{
+  CanCome,
+  NoGridYet,
+  GoesOn,
+  Closes,
+  LinesFull,
+  rowsAfterRead,
+  Stopped,
+  Passed,
+  StoppedExactlyWhen,
+  PassedExactlyWhen,
+}
+use Rattle.walk_laws.proofs.Rows.{first-same, first-holds}
+
+-- what the order's answer says of what may come next
+data Stands (order : Order) (n : ℕ) : Judged → Type 0 where
+  fits : {next : Order} → CanCome order n → Not (NoGridYet order n) → Not (Closes order n) → Stands order n (says.Fits next)
+  closes : CanCome order n → Not (NoGridYet order n) → Closes order n → Stands order n says.Closes
+  misplaced : Not (CanCome order n) → Not (NoGridYet order n) → Stands order n says.Misplaced
+  noGrid : NoGridYet order n → Stands order n says.NoGrid
+
+-- where one number alone fits
+stands-only : (at next : Order) (n k : ℕ) → (n ≡ k → CanCome at n) → (CanCome at n → n ≡ k)
+    → Not (at ≡ AfterIdentification) → Not (at ≡ AfterData) → Stands at n (pick (eqb n k) (says.Fits next) says.Misplaced)
+stands-only at next n k is only first last =
+    by-test (Stands at n) (eqb n k) (λ e. fits (is (eqb-true n k e)) (λ h. first (h .0)) (λ h. last (h .0))) λ e.
+    misplaced (λ h. eqb-false n k e (only h)) (λ h. first (h .0))
+
+-- a constructor is no other
+pub apart : {a b : Order} → (a ≡ b → _≡_ {A = ℕ} 0 1) → Not (a ≡ b)
+apart clash e = let z = clash e in omega arith
+
+stands : (at : Order) (n : ℕ) → Stands at n (judged at n)
+unfolding judged
+stands BetweenMessages n = stands-only BetweenMessages AfterIndicator n 0 (λ e. e) (λ e. e) (apart (λ e. cc)) (apart (λ e. cc))
+stands AfterIndicator n = stands-only AfterIndicator AfterIdentification n 1 (λ e. e) (λ e. e) (apart (λ e. cc)) (apart (λ e. cc))
+stands AfterLocalUse n = stands-only AfterLocalUse AfterGrid n 3 (λ e. e) (λ e. e) (apart (λ e. cc)) (apart (λ e. cc))
+stands AfterGrid n = stands-only AfterGrid AfterProduct n 4 (λ e. e) (λ e. e) (apart (λ e. cc)) (apart (λ e. cc))
+stands AfterProduct n = stands-only AfterProduct AfterRepresentation n 5 (λ e. e) (λ e. e) (apart (λ e. cc)) (apart (λ e. cc))
+stands AfterRepresentation n = stands-only AfterRepresentation AfterBitMap n 6 (λ e. e) (λ e. e) (apart (λ e. cc)) (apart (λ e. cc))
+stands AfterBitMap n = stands-only AfterBitMap AfterData n 7 (λ e. e) (λ e. e) (apart (λ e. cc)) (apart (λ e. cc))
+stands AfterIdentification n =
+    let ajar : Not (Closes AfterIdentification n) = λ h. apart (λ e. cc) (h .0) in
+    by-test (Stands AfterIdentification n) (eqb n 2)
+    (λ e. let z = eqb-true n 2 e in fits (inl z) (λ h. omega (arith, h .1)) ajar) λ e2.
+    by-test (Stands AfterIdentification n) (eqb n 3)
+    (λ e. let z = eqb-true n 3 e in fits (inr z) (λ h. omega (arith, h .1)) ajar) λ e3.
+    by-test (Stands AfterIdentification n) (eqb n 4) (λ e. noGrid (refl, eqb-true n 4 e)) λ e4.
+    misplaced (⊎-elim (eqb-false n 2 e2) (eqb-false n 3 e3)) (λ h. eqb-false n 4 e4 (h .1))
+stands AfterData n =
+    let grid : Not (NoGridYet AfterData n) = λ h. apart (λ e. cc) (h .0) in
+    by-test (Stands AfterData n) (eqb n 8) (λ e. closes (inl (eqb-true n 8 e)) grid (refl, eqb-true n 8 e)) λ e8.
+    let ajar : Not (Closes AfterData n) = λ h. eqb-false n 8 e8 (h .1) in
+    by-test (Stands AfterData n) (eqb n 2) (λ e. fits (inr (inl (eqb-true n 2 e))) grid ajar) λ e2.
+    by-test (Stands AfterData n) (eqb n 3) (λ e. fits (inr (inr (inl (eqb-true n 3 e)))) grid ajar) λ e3.
+    by-test (Stands AfterData n) (eqb n 4) (λ e. fits (inr (inr (inr (eqb-true n 4 e)))) grid ajar) λ e4.
+    misplaced (⊎-elim (eqb-false n 8 e8) (⊎-elim (eqb-false n 2 e2) (⊎-elim (eqb-false n 3 e3) (eqb-false n 4 e4)))) grid
+stands SubmessageStart n =
+    let grid : Not (NoGridYet SubmessageStart n) = λ h. apart (λ e. cc) (h .0) in
+    let ajar : Not (Closes SubmessageStart n) = λ h. apart (λ e. cc) (h .0) in
+    by-test (Stands SubmessageStart n) (eqb n 2) (λ e. fits (inl (eqb-true n 2 e)) grid ajar) λ e2.
+    by-test (Stands SubmessageStart n) (eqb n 3) (λ e. fits (inr (inl (eqb-true n 3 e))) grid ajar) λ e3.
+    by-test (Stands SubmessageStart n) (eqb n 4) (λ e. fits (inr (inr (eqb-true n 4 e))) grid ajar) λ e4.
+    misplaced (⊎-elim (eqb-false n 2 e2) (⊎-elim (eqb-false n 3 e3) (eqb-false n 4 e4))) grid
+
+-- all that a judgement can be
+pub data Judges (room : Room) (r : Reached) (s : Section) : Judgement → Type 0 where
+  halts : {lines : List Line} {why : Refusal} → First (rowsAfterRead room r s) (refusalNumber why) (refusalDetail why)
+      → Judges room r s (stops lines why)
+  goes : {lines : List Line} {closed : ℕ} {reached : Reached} → NoRow (rowsAfterRead room r s)
+      → Judges room r s (passes lines closed reached)
+
+module _ (room : Room) (r : Reached) (s : Section) where
+  abbrev J : Judgement → Type 0
+  J = Judges room r s
+
+  -- where no line of a submessage that goes on is due, or there is room for it
+  module _ (no14 : Not (GoesOn (r .order) (s .number) × LinesFull room r)) (r′ : Reached) (same : r′ .sections ≡ r .sections)
+      (due : Closes (r .order) (s .number) → r′ .lines ≡ r .lines) where
+    judges-order : (j : Judged) (lines : List Line) → Stands (r .order) (s .number) j → J (byOrder j room r′ s lines)
+    unfolding byOrder fitted closing refusalNumber refusalDetail
+    judges-order (says.Fits next) lines (fits can grid ajar) =
+        by-test J (leb (room .rows) (r′ .sections))
+        (λ e. let k = leb-true (room .rows) (r′ .sections) e in
+        halts (inr (no14, inr (grid, inr ((λ no. no can), inl (omega arith, refl, refl)))))) λ e.
+        let k = leb-false (room .rows) (r′ .sections) e in
+        goes (no14, (grid, ((λ no. no can), ((λ full. omega arith), ((λ h. ajar (h .0)), tt)))))
+    judges-order says.Closes lines (closes can grid shut) =
+        let lines = due shut in
+        by-test J (leb (room .rows) (r′ .sections))
+        (λ e. let k = leb-true (room .rows) (r′ .sections) e in
+        halts (inr (no14, inr (grid, inr ((λ no. no can), inl (omega arith, refl, refl)))))) λ e.
+        let k = leb-false (room .rows) (r′ .sections) e in
+        by-test J (leb (room .lines) (r′ .lines))
+        (λ f. let m = leb-true (room .lines) (r′ .lines) f in
+        halts
+        (inr (no14, inr (grid, inr ((λ no. no can), inr ((λ full. omega arith), inl ((shut, omega arith), refl, refl))))))) λ f.
+        let m = leb-false (room .lines) (r′ .lines) f in
+        goes (no14, (grid, ((λ no. no can), ((λ full. omega arith), ((λ h. let full = h .1 in omega arith), tt)))))
+    judges-order says.Misplaced lines (misplaced can′t grid) = halts (inr (no14, inr (grid, inl (can′t, refl, refl))))
+    judges-order says.NoGrid lines (noGrid grid) = halts (inr (no14, inl (grid, refl, refl)))
+
+  pub judges : J (judgement room r s)
+  unfolding judgement refusalNumber refusalDetail
+  judges =
+      by-test J (completes (r .order) (s .number))
+      (λ e.
+      let on = completes-only (r .order) (s .number) e in
+      by-test J (leb (room .lines) (r .lines)) (λ f. halts (inl ((on, leb-true _ _ f), refl, refl))) λ f.
+      let m = leb-false (room .lines) (r .lines) f in
+      let as-start : judged (r .order) (s .number) ≡ judged SubmessageStart (s .number) =
+      rw (on .0) (starts-next (s .number) (on .1)) in
+      judges-order (λ h. let full = h .1 in omega arith) (goneOn r) refl (λ shut. absurd (on .1 (shut .1)))
+      (judged SubmessageStart (s .number)) _
+      (subst (Stands (r .order) (s .number)) as-start (stands (r .order) (s .number))))
+      λ e.
+      judges-order
+      (λ h. never-both (completes-there (s .number) (h .0 .1)) (subst (λ (o : Order). completes o (s .number) ≡ false) (h .0 .0) e))
+      r refl (λ shut. refl) (judged (r .order) (s .number)) [] (stands (r .order) (s .number))
+
+pub stopped-exactly-when : StoppedExactlyWhen
+stopped-exactly-when room r s n d = (there, back (judgement room r s) refl (judges room r s))
+  where
+    there : Stopped room r s n d → First (rowsAfterRead room r s) n d
+    there h = go (subst (Judges room r s) (h .halts) (judges room r s))
+      where
+        go : Judges room r s (stops (h .lines) (h .why)) → First (rowsAfterRead room r s) n d
+        go (halts first) = rw (h .numbered, h .detailed) first
+
+    back : (j : Judgement) → judgement room r s ≡ j → Judges room r s j → First (rowsAfterRead room r s) n d → Stopped room r s n d
+    back _ e (halts {lines} {why} first) v =
+        let same = first-same (rowsAfterRead room r s) n d (refusalNumber why) (refusalDetail why) v first in
+        record { lines = lines; why = why; halts = e; numbered = same .0; detailed = same .1 }
+    back _ e (goes none) v = absurd (first-holds (rowsAfterRead room r s) n d v none)
+
+pub passed-exactly-when : PassedExactlyWhen
+passed-exactly-when room r s = (there, back (judgement room r s) refl (judges room r s))
+  where
+    there : Passed room r s → NoRow (rowsAfterRead room r s)
+    there h = go (subst (Judges room r s) (h .goes) (judges room r s))
+      where
+        go : Judges room r s (passes (h .lines) (h .closed) (h .reached)) → NoRow (rowsAfterRead room r s)
+        go (goes none) = none
+
+    back : (j : Judgement) → judgement room r s ≡ j → Judges room r s j → NoRow (rowsAfterRead room r s) → Passed room r s
+    back _ e (halts {why = why} first) v =
+        absurd (first-holds (rowsAfterRead room r s) (refusalNumber why) (refusalDetail why) first v)
+    back _ e (goes {lines} {closed} {reached} none) v = record { lines = lines; closed = closed; reached = reached; goes = e }

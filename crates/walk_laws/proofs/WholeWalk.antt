@@ -1,0 +1,236 @@
+-- A walk is refused or ends clean exactly when it comes to a read at which the rows, or the input's end, say so. Assumes nothing.
+use Prim.Native.Nat.{ℕ, zero, suc, _-_, _≤_, _<_}
+use native.Mathlib.Omega.{arith}
+use mathlib.Core.Path.{_≡_, refl, sym, ap, subst, _∙_}
+use mathlib.Core.Bool.{Bool, true, false}
+use mathlib.Core.List.{List}
+use lib.Dec.{ltb}
+use lib.ListN.{length}
+use borrow.Author.Tests.{ltb-true, ltb-false, lt-ltb, le-ltb}
+use Rattle.octets.specs.Choice.{pick}
+use Rattle.framing.specs.Framing.{readAt, refused}
+use Rattle.framing.specs.Listing as list
+use Rattle.framing.specs.declared.read.Section.{Section}
+use Rattle.framing.specs.declared.read.Cursor.{Cursor}
+use Rattle.framing.specs.Read.{Read}
+use Rattle.framing.specs.Read as read
+use Rattle.framing.proofs.OneRead.{reads-as, goes}
+use Rattle.framing.proofs.Listing.{listingOn, listing-next, listing-is}
+use Rattle.order.specs.Order.{isBetween}
+use Rattle.order.specs.declared.Order.{Order}
+use Rattle.order.specs.declared.Order.the-variants.{
+  BetweenMessages,
+  AfterIndicator,
+  AfterIdentification,
+  AfterLocalUse,
+  AfterGrid,
+  AfterProduct,
+  AfterRepresentation,
+  AfterBitMap,
+  AfterData,
+  SubmessageStart,
+}
+use Rattle.index.specs.Lines.{place}
+use Rattle.index.specs.Numbers.{refusalNumber, refusalDetail, endOf}
+use Rattle.index.specs.declared.numbers.End.{End}
+use Rattle.index.specs.declared.refusal.Refusal.the-variants as refusal
+use Rattle.index.specs.declared.refusal.Outcome.{Outcome}
+use Rattle.index.specs.declared.refusal.Outcome.the-variants as outcome
+use Rattle.index.specs.declared.bounds.Room.{Room}
+use Rattle.index.specs.Walk.{Reached, atStart, Judgement, judgement, Told, ends, concluded, followed, walkedFrom, walked}
+use Rattle.walk_laws.specs.Rows.{Not}
+use Rattle.walk_laws.specs.ExactlyWhen.{
+  NoneInHand,
+  Comes,
+  started,
+  further,
+  Given,
+  tooLong,
+  unread,
+  inputOver,
+  misjudged,
+  EndsClean,
+  between,
+  WalkRefusedExactlyWhen,
+  WalkCleanExactlyWhen,
+}
+use Rattle.walk_laws.proofs.OneRead.{Tells, refuses, reads, over, tells, refused-exactly-when, over-exactly-when}
+use Rattle.walk_laws.proofs.OneSection.{Judges, halts, goes as passes-on, judges, stopped-exactly-when, apart}
+
+-- the walk from a place and a rest on
+unfoldable pub on : Room → List ℕ → ℕ → ℕ → Reached → Told
+on room file at rest r = walkedFrom room r (listingOn file at rest .sections) (listingOn file at rest .ending)
+
+-- and from a read on
+abbrev pub after : Room → List ℕ → Reached → Read → Told
+after room file r (read.Section s next) = followed r s (judgement room r s) (λ reached. on room file (next .at .0) (next .rest) reached)
+after room file r read.Over = ends (concluded r list.over)
+after room file r (read.Refused fault offset) = ends (concluded r (list.refused fault offset))
+
+pub on-next : (room : Room) (file : List ℕ) (at rest : ℕ) (r : Reached) → on room file at rest r ≡ after room file r (readAt file at rest)
+unfolding on walkedFrom
+on-next room file at rest r =
+    ap (λ (l : list.Listing). walkedFrom room r (l .sections) (l .ending)) (listing-next file at rest) ∙ go (readAt file at rest)
+  where
+    go : (x : Read)
+        → walkedFrom room r (list.listed x (listingOn file) .sections) (list.listed x (listingOn file) .ending) ≡ after room file r x
+    go (read.Section s next) = refl
+    go read.Over = refl
+    go (read.Refused fault offset) = refl
+
+-- a file that is not too long is walked from its start on
+pub walked-on : (room : Room) (file : List ℕ) → length file ≤ 1099511627776 → walked room file ≡ on room file 0 0 atStart
+unfolding walked on
+walked-on room file short =
+    rw (le-ltb 1099511627776 (length file) short)
+    (ap (λ (l : list.Listing). walkedFrom room atStart (l .sections) (l .ending)) (listing-is file))
+
+-- the outcome is that from any stand to which the walk comes
+pub comes-on : (room : Room) (file : List ℕ) {at rest : ℕ} {r : Reached} → length file ≤ 1099511627776 → Comes room file at rest r
+    → walked room file .outcome ≡ on room file at rest r .outcome
+comes-on room file short started = ap (λ (t : Told). t .outcome) (walked-on room file short)
+comes-on room file short (further {at} {rest} {r = r} {s = s} {cursor = cursor} c well passed) =
+    comes-on room file short c
+    ∙ ap (λ (t : Told). t .outcome) (on-next room file at rest r)
+    ∙ ap (λ (x : Read). after room file r x .outcome) well
+    ∙ ap (λ (j : Judgement). followed r s j (λ reached. on room file (cursor .at .0) (cursor .rest) reached) .outcome) passed
+
+-- between messages
+abbrev Said : Order → Bool → Type 0
+Said order true = order ≡ BetweenMessages
+Said order false = Not (order ≡ BetweenMessages)
+
+pub said : (order : Order) → Said order (isBetween order)
+unfolding isBetween
+said BetweenMessages = refl
+said AfterIndicator = apart (λ e. cc)
+said AfterIdentification = apart (λ e. cc)
+said AfterLocalUse = apart (λ e. cc)
+said AfterGrid = apart (λ e. cc)
+said AfterProduct = apart (λ e. cc)
+said AfterRepresentation = apart (λ e. cc)
+said AfterBitMap = apart (λ e. cc)
+said AfterData = apart (λ e. cc)
+said SubmessageStart = apart (λ e. cc)
+
+pub not-between : (order : Order) → Not (order ≡ BetweenMessages) → isBetween order ≡ false
+not-between order other = go (isBetween order) (said order) refl
+  where
+    go : (t : Bool) → Said order t → isBetween order ≡ t → isBetween order ≡ false
+    go true h e = absurd (other h)
+    go false h e = e
+
+module _ (room : Room) (file : List ℕ) (short : length file ≤ 1099511627776) where
+  -- how a walk may end
+  abbrev Ends : Outcome → Type 0
+  Ends outcome.Clean = EndsClean room file
+  Ends (outcome.Refused why p o) = Given room file (refusalNumber why) (p .0) (o .0) (refusalDetail why)
+
+  over-ends : (at rest : ℕ) (r : Reached) → Comes room file at rest r → NoneInHand file at rest → Ends (concluded r list.over)
+  unfolding concluded refusalNumber refusalDetail
+  over-ends at rest r c none = go (isBetween (r .order)) (said (r .order))
+    where
+      go : (t : Bool) → Said (r .order) t
+          → Ends (pick t outcome.Clean (outcome.Refused refusal.InputOver (r .last .place) (r .last .section .offset)))
+      go true e = between short c none e
+      go false e = inputOver short c none e
+
+  ends-on : (fuel at rest : ℕ) (r : Reached) → length file - at < fuel → Comes room file at rest r
+      → Ends (on room file at rest r .outcome)
+  unfolding concluded refusalNumber refusalDetail
+  ends-on zero at rest r few c = absurd (omega arith)
+  ends-on (suc fuel) at rest r few c =
+      subst (λ (t : Told). Ends (t .outcome)) (sym (on-next room file at rest r))
+      (go (readAt file at rest) refl (tells file at rest) (ends-on fuel))
+    where
+      judged : (s : Section) (cursor : Cursor) → readAt file at rest ≡ read.Section s cursor
+          → ((reached : Reached) → Comes room file (cursor .at .0) (cursor .rest) reached
+          → Ends (on room file (cursor .at .0) (cursor .rest) reached .outcome))
+          → (j : Judgement) → judgement room r s ≡ j → Judges room r s j
+          → Ends (followed r s j (λ reached. on room file (cursor .at .0) (cursor .rest) reached) .outcome)
+      judged s cursor e later _ f (halts row) = misjudged short c e row
+      judged s cursor e later _ f (passes-on {reached = reached} none) = later reached (further c e f)
+
+      go : (x : Read) → readAt file at rest ≡ x → Tells file at rest x
+          → ((at rest : ℕ) (r : Reached) → length file - at < fuel → Comes room file at rest r → Ends (on room file at rest r .outcome))
+          → Ends (after room file r x .outcome)
+      go _ e (refuses u) later = unread short c u
+      go _ e (reads {s} {next = cursor} w) later =
+          let forward = goes (reads-as file at rest e) in
+          judged s cursor e (λ reached c′. later (cursor .at .0) (cursor .rest) reached (omega arith) c′) (judgement room r s) refl
+          (judges room r s)
+      go _ e (over none) later = over-ends at rest r c none
+
+  pub walk-ends : Ends (walked room file .outcome)
+  walk-ends =
+      subst (λ (t : Told). Ends (t .outcome)) (sym (walked-on room file short))
+      (ends-on (suc (length file - 0)) 0 0 atStart (omega arith) started)
+
+-- a refusal's numbers
+abbrev Numbers : Room → List ℕ → End → Type 0
+Numbers room file e = Given room file (e .outcome) (e .place) (e .offset) (e .detail)
+
+abbrev numbers : ℕ → ℕ → ℕ → ℕ → End
+numbers n p o d = record { outcome = n; place = p; offset = o; detail = d }
+
+same-numbers : (n n′ p o d d′ : ℕ) → n ≡ n′ → d ≡ d′ → numbers n′ p o d′ ≡ numbers n p o d
+same-numbers n n′ p o d d′ e f = rw (e, f)
+
+-- the outcome at a stand, by the read made there
+at-read : (room : Room) (file : List ℕ) (at rest : ℕ) (r : Reached) (x : Read) → length file ≤ 1099511627776 → Comes room file at rest r
+    → readAt file at rest ≡ x → walked room file .outcome ≡ after room file r x .outcome
+at-read room file at rest r x short c e =
+    comes-on room file short c
+    ∙ ap (λ (t : Told). t .outcome) (on-next room file at rest r)
+    ∙ ap (λ (x : Read). after room file r x .outcome) e
+
+pub walk-refused-exactly-when : WalkRefusedExactlyWhen
+unfolding walked concluded endOf refusalNumber refusalDetail
+walk-refused-exactly-when room file n p o d some = (there (ltb 1099511627776 (length file)) refl, back n p o d)
+  where
+    finish : (x : Outcome) → endOf x ≡ numbers n p o d → (short : length file ≤ 1099511627776) → Ends room file short x
+        → Given room file n p o d
+    finish outcome.Clean e short g = absurd (some (sym (ap (λ (e : End). e .outcome) e)))
+    finish (outcome.Refused why p o) e short g = subst (Numbers room file) e g
+
+    there : (t : Bool) → ltb 1099511627776 (length file) ≡ t → endOf (walked room file .outcome) ≡ numbers n p o d
+        → Given room file n p o d
+    there true long e =
+        subst (Numbers room file) (rw long at e) (tooLong (ltb-true 1099511627776 (length file) long))
+    there false fits e =
+        let short = ltb-false 1099511627776 (length file) fits in finish (walked room file .outcome) e short (walk-ends room file short)
+
+    back : (n p o d : ℕ) → Given room file n p o d → endOf (walked room file .outcome) ≡ numbers n p o d
+    back _ _ _ _ (tooLong long) = rw (lt-ltb 1099511627776 (length file) long)
+    back n _ o d (unread {at} {rest} {r = r} short c u) =
+        let k = refused-exactly-when file at rest n o d .1 u in
+        ap endOf (at-read room file at rest r (refused (k .fault) o) short c (k .refuses))
+        ∙ same-numbers n _ (r .sections) o d _ (k .numbered) (k .detailed)
+    back _ _ _ _ (inputOver {at} {rest} {r} short c none other) =
+        ap endOf (at-read room file at rest r read.Over short c (over-exactly-when file at rest .1 none))
+        ∙ rw (not-between (r .order) other)
+    back n _ _ d (misjudged {at} {rest} {r = r} {s} {cursor} short c well row) =
+        let k = stopped-exactly-when room r s n d .1 row in
+        ap endOf
+        (at-read room file at rest r (read.Section s cursor) short c well
+        ∙ ap (λ (j : Judgement). followed r s j (λ reached. on room file (cursor .at .0) (cursor .rest) reached) .outcome) (k .halts))
+        ∙ same-numbers n _ (r .sections) (s .offset .0) d _ (k .numbered) (k .detailed)
+
+pub walk-clean-exactly-when : WalkCleanExactlyWhen
+unfolding walked concluded isBetween
+walk-clean-exactly-when room file = (there (ltb 1099511627776 (length file)) refl, back)
+  where
+    finish : (x : Outcome) → x ≡ outcome.Clean → (short : length file ≤ 1099511627776) → Ends room file short x → EndsClean room file
+    finish outcome.Clean e short g = g
+    finish (outcome.Refused why p o) e short g = let z : _≡_ {A = ℕ} 0 1 = cc in absurd (omega arith)
+
+    there : (t : Bool) → ltb 1099511627776 (length file) ≡ t → walked room file .outcome ≡ outcome.Clean → EndsClean room file
+    there true long e =
+        let f = rw long at e in
+        let z : _≡_ {A = ℕ} 0 1 = cc in absurd (omega arith)
+    there false fits e =
+        let short = ltb-false 1099511627776 (length file) fits in finish (walked room file .outcome) e short (walk-ends room file short)
+
+    back : EndsClean room file → walked room file .outcome ≡ outcome.Clean
+    back (between {at} {rest} {r} short c none clean) =
+        at-read room file at rest r read.Over short c (over-exactly-when file at rest .1 none) ∙ rw clean

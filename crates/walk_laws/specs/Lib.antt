@@ -1,0 +1,10 @@
+-- Document 01's sample files, as one statement.
+-- Each refusal exactly when its row holds and no row before it does.
+-- Walks that give each of them.
+-- What is so of every walk.
+pub mod Samples
+pub mod Rows
+pub mod ExactlyWhen
+pub mod EachNumber
+pub mod Witnesses
+pub mod Laws
