@@ -2,11 +2,12 @@
  * Counts the instructions that an x86-64 program runs: a plugin of the emulator qemu-user, on any processor that it runs on.
  *
  *     cc -shared -fPIC -O2 -o count.so count.c
- *     qemu-x86_64 -cpu qemu64 -plugin ./count.so,out=FILE PROGRAM WORDS
+ *     qemu-x86_64 -cpu qemu64 -plugin ./count.so,out=FILE[,until=write] PROGRAM WORDS
  *
  * FILE then has `instructions N`, `steps N`, and a line `in N FUNCTION` for each function that has a symbol. A repeated string instruction
  * (rep movsb and its like) is one instruction, as a processor counts it; the emulator goes through it octet by octet, and `steps` has
- * what that adds. The counts are the same in every run.
+ * what that adds. The counts are the same in every run. With `until=write` they are those up to the program's first `write`, and that call
+ * with them; if it makes none, of all.
  */
 #include <stdint.h>
 #include <stdio.h>
@@ -21,9 +22,11 @@ enum { VERSION = 1, NO_REGISTERS = 0, ADD = 0 };
 typedef void (*translated_fn)(qemu_plugin_id_t, struct qemu_plugin_tb *);
 typedef void (*executed_fn)(unsigned, void *);
 typedef void (*exit_fn)(qemu_plugin_id_t, void *);
+typedef void (*called_fn)(qemu_plugin_id_t, unsigned, int64_t, uint64_t, uint64_t, uint64_t, uint64_t, uint64_t, uint64_t, uint64_t, uint64_t);
 void qemu_plugin_register_vcpu_tb_trans_cb(qemu_plugin_id_t, translated_fn);
 void qemu_plugin_register_vcpu_insn_exec_inline(struct qemu_plugin_insn *, int, void *, uint64_t);
 void qemu_plugin_register_vcpu_insn_exec_cb(struct qemu_plugin_insn *, executed_fn, int, void *);
+void qemu_plugin_register_vcpu_syscall_cb(qemu_plugin_id_t, called_fn);
 void qemu_plugin_register_atexit_cb(qemu_plugin_id_t, exit_fn, void *);
 size_t qemu_plugin_tb_n_insns(const struct qemu_plugin_tb *);
 struct qemu_plugin_insn *qemu_plugin_tb_get_insn(const struct qemu_plugin_tb *, size_t);
@@ -36,7 +39,8 @@ extern int qemu_plugin_version;
 int qemu_plugin_version = VERSION;
 int qemu_plugin_install(qemu_plugin_id_t, const void *, int, char **);
 
-enum { MOST_FUNCTIONS = 4096 };
+/* WRITE is the number of the system's call `write` on x86-64. */
+enum { MOST_FUNCTIONS = 4096, WRITE = 1 };
 
 struct function {
     const char *name;
@@ -113,12 +117,10 @@ static void translated(qemu_plugin_id_t id, struct qemu_plugin_tb *block)
     }
 }
 
-static void at_exit(qemu_plugin_id_t id, void *unused)
+static void tell(void)
 {
     FILE *out = fopen(out_path, "w");
     uint64_t instructions = 0;
-    (void)id;
-    (void)unused;
     if (out == NULL) {
         perror(out_path);
         return;
@@ -135,12 +137,35 @@ static void at_exit(qemu_plugin_id_t id, void *unused)
     fclose(out);
 }
 
+static int told;
+
+static void at_exit(qemu_plugin_id_t id, void *unused)
+{
+    (void)id;
+    (void)unused;
+    if (!told) {
+        tell();
+    }
+}
+
+static void called(qemu_plugin_id_t id, unsigned cpu, int64_t number, uint64_t a, uint64_t b, uint64_t c, uint64_t d, uint64_t e, uint64_t f,
+                   uint64_t g, uint64_t h)
+{
+    (void)id, (void)cpu, (void)a, (void)b, (void)c, (void)d, (void)e, (void)f, (void)g, (void)h;
+    if (number == WRITE && !told) {
+        told = 1;
+        tell();
+    }
+}
+
 int qemu_plugin_install(qemu_plugin_id_t id, const void *info, int words, char **word)
 {
     (void)info;
     for (int i = 0; i < words; i++) {
         if (strncmp(word[i], "out=", 4) == 0) {
             out_path = strdup(word[i] + 4);
+        } else if (strcmp(word[i], "until=write") == 0) {
+            qemu_plugin_register_vcpu_syscall_cb(id, called);
         }
     }
     if (out_path == NULL) {

@@ -1,4 +1,5 @@
-// `replay` over the stored list of the crate's own answers (tests/oracle), and last a request of no known kind.
+// `replay` over the stored list of the crate's own answers (tests/oracle), and last a request of
+// no known kind.
 fn main() {
     replaying::answer_requests();
 }

@@ -1,4 +1,5 @@
--- The table of lines that a desk owns before it is lent: every number of every line is the largest number. Assumes nothing.
+-- The table of lines that a desk owns before it is lent: every number of every line is the largest
+-- number.
 use Prim.Native.Nat.{ℕ, min, _-_}
 use mathlib.Core.List.{List, _++_}
 use lib.ListN.{replicate}

@@ -1,4 +1,5 @@
--- The requests of an input, in docs/REPLAY.md's words and order: one kind octet, then numbers, then octets. Assumes nothing.
+-- The requests of an input, in docs/REPLAY.md's words and order: one kind octet, then numbers, then
+-- octets.
 use Prim.Native.Nat.{ℕ, _+_, _*_, _≤_}
 use mathlib.Core.List.{List}
 use lib.Dec.{eqb, ltb, leb}
@@ -7,7 +8,8 @@ use Rattle.octets.specs.Choice.{pick}
 use Rattle.octets.specs.BigEndian.{beAt}
 use Rattle.replaying.specs.declared.requests.Request.{Request}
 use Rattle.replaying.specs.declared.requests.Writing.{Writing}
-use Rattle.replaying.specs.declared.requests.Request.the-variants.{Walk, Pull, Copy, Write, Fields, Signed, Bad}
+use Rattle.replaying.specs.declared.requests.Request.the-variants.{Walk, Pull, Copy, Write}
+use Rattle.replaying.specs.declared.requests.Request.the-variants.{Fields, Signed, Bad}
 
 -- a request that runs to `to`, unless the end of the input cuts it
 abbrev pub whole : List ℕ → ℕ → Request → Request
@@ -17,9 +19,10 @@ whole input to request = pick (ltb (length input) to) Bad request
 abbrev pub upTo : ℕ → ℕ → Request → Request
 upTo most number request = pick (ltb most number) Bad request
 
--- `W`: n (2): numbers in the section table, at most 6,144; m (2): lines in the submessage table, at most 512; length (4); the file
-unfoldable pub walkAt : List ℕ → ℕ → Request
-walkAt input at =
+-- `W`: n (2): numbers in the section table, at most 6,144; m (2): lines in the submessage table, at
+-- most 512; length (4); the file
+unfoldable pub walkRequestAt : List ℕ → ℕ → Request
+walkRequestAt input at =
     let n = beAt input (at + 1) 2 in
     let m = beAt input (at + 3) 2 in
     let from = at + 9 in
@@ -27,24 +30,25 @@ walkAt input at =
     whole input to (upTo 6144 n (upTo 512 m (Walk n m from to)))
 
 -- `P`: length (4); the file
-unfoldable pub pullAt : List ℕ → ℕ → Request
-pullAt input at =
+unfoldable pub pullRequestAt : List ℕ → ℕ → Request
+pullRequestAt input at =
     let from = at + 5 in
     let to = from + beAt input (at + 1) 4 in
     whole input to (Pull from to)
 
 -- `C`: d (4): length of the destination, at most 262,144; length (4); the file
-unfoldable pub copyAt : List ℕ → ℕ → Request
-copyAt input at =
+unfoldable pub copyRequestAt : List ℕ → ℕ → Request
+copyRequestAt input at =
     let d = beAt input (at + 1) 4 in
     let from = at + 9 in
     let to = from + beAt input (at + 5) 4 in
     whole input to (upTo 262144 d (Copy d from to))
 
--- `M`: discipline (1); reserved (1), reserved (1); k (2): sections of the plan; k times number (8), offset (8), length (8); store length (4); the
--- store; d (4): length of the destination, at most 262,144
-unfoldable pub writeAt : List ℕ → ℕ → Request
-writeAt input at =
+-- `M`: discipline (1); reserved (1), reserved (1); k (2): sections of the plan; k times number (8),
+-- offset (8), length (8); store length (4); the store; d (4): length of the destination, at most
+-- 262,144
+unfoldable pub writeRequestAt : List ℕ → ℕ → Request
+writeRequestAt input at =
     let k = beAt input (at + 4) 2 in
     let plan = at + 6 in
     let rows-end = plan + k * 24 in
@@ -67,7 +71,8 @@ writeAt input at =
       to = to;
     })))
 
--- a message to be written whose rows, and behind them whose store, stand inside the input, and whose destination is no longer than its limit
+-- a message to be written whose rows, and behind them whose store, stand inside the input, and
+-- whose destination is no longer than its limit
 pub record Planned (input : List ℕ) (w : Writing) : Type 0 where
   pub rows : w .plan + w .sections * 24 ≤ w .store
   pub ordered : w .store ≤ w .end
@@ -75,28 +80,29 @@ pub record Planned (input : List ℕ) (w : Writing) : Type 0 where
   pub room : w .room ≤ 262144
 
 -- `F`: section number (1); length (4); the payload
-unfoldable pub fieldsAt : List ℕ → ℕ → Request
-fieldsAt input at =
+unfoldable pub fieldsRequestAt : List ℕ → ℕ → Request
+fieldsRequestAt input at =
     let from = at + 6 in
     let to = from + beAt input (at + 2) 4 in
     whole input to (Fields (getD input (at + 1) 0) from to)
 
 -- `S`: length (1); the octets
-unfoldable pub signedAt : List ℕ → ℕ → Request
-signedAt input at =
+unfoldable pub signedRequestAt : List ℕ → ℕ → Request
+signedRequestAt input at =
     let from = at + 2 in
     let to = from + getD input (at + 1) 0 in
     whole input to (Signed from to)
 
--- the request of a kind octet at `at`: 87 is `W`, 80 is `P`, 67 is `C`, 77 is `M`, 70 is `F`, 83 is `S`, another kind is bad
+-- the request of a kind octet at `at`: 87 is `W`, 80 is `P`, 67 is `C`, 77 is `M`, 70 is `F`, 83 is
+-- `S`, another kind is bad
 abbrev pub ofKind : ℕ → List ℕ → ℕ → Request
 ofKind kind input at =
-    pick (eqb kind 87) (walkAt input at)
-    (pick (eqb kind 80) (pullAt input at)
-    (pick (eqb kind 67) (copyAt input at)
-    (pick (eqb kind 77) (writeAt input at)
-    (pick (eqb kind 70) (fieldsAt input at)
-    (pick (eqb kind 83) (signedAt input at) Bad)))))
+    pick (eqb kind 87) (walkRequestAt input at)
+    (pick (eqb kind 80) (pullRequestAt input at)
+    (pick (eqb kind 67) (copyRequestAt input at)
+    (pick (eqb kind 77) (writeRequestAt input at)
+    (pick (eqb kind 70) (fieldsRequestAt input at)
+    (pick (eqb kind 83) (signedRequestAt input at) Bad)))))
 
 -- the request at `at`; where the input has no octet, a bad one
 unfoldable pub requestAt : List ℕ → ℕ → Request

@@ -1,6 +1,8 @@
-// A walk for whoever owns no table of lines, as a program does: the desk owns 512 lines, lends some of them, and hands all back by value.
+// A walk for whoever owns no table of lines, as a program does: the desk owns 512 lines, lends
+// some of them, and hands all back by value.
 ghost use mathlib.Core.Path.{_≡_};
 ghost use Prim.Native.Nat.{min};
+ghost use lib.ListN.{length};
 ghost use Rattle.replaying.specs.Desk.{unset, deskWalk, deskLines};
 use index::Line;
 use index::LocalUsePlace;
@@ -11,12 +13,23 @@ use walk::walk;
 // The lines of a desk.
 pub(crate) const LINES: usize = 512;
 
+// The largest section table: 2,048 rows of three numbers.
+pub(crate) const NUMBERS: usize = 6_144;
+
 pub(crate) struct Desk {
     pub answer: Answer,
     pub lines: [Line; LINES],
 }
 
-// A line that nothing was stored into: a number that no file gives, so that a stored line can be told from it.
+// Zeros. That there are `NUMBERS` is all that lending a part of them asks.
+pub(crate) fn empty_table() -> [u64; NUMBERS]
+    ensures { λ r. do ⌜ (← ⟦NUMBERS⟧ .entry) ≡ length r ⌝ }
+{
+    [0; NUMBERS]
+}
+
+// A line that nothing was stored into: a number that no file gives, so that a stored line can be
+// told from it.
 fn unset_line() -> Line
     ensures { λ r. ⌜ r ≡ unset ⌝ }
 {
@@ -48,9 +61,11 @@ fn lent(room: usize) -> usize
 
 // Walks a file with so many of the desk's lines lent.
 pub(crate) fn walk_at_desk(file: &[u8], rows: &mut [u64], room: usize) -> Desk
-    ensures answer { λ r. ⌜ r .answer ≡ deskWalk (now (file .entry)) (now (rows .entry)) room .answer ⌝ }
+    ensures answer { λ r. ⌜ r .answer
+        ≡ deskWalk (now (file .entry)) (now (rows .entry)) room .answer ⌝ }
     ensures lines { λ r. ⌜ r .lines ≡ deskLines (now (file .entry)) (now (rows .entry)) room ⌝ }
-    ensures rows { λ r. ⌜ now (rows .exit) ≡ deskWalk (now (file .entry)) (now (rows .entry)) room .rows ⌝ }
+    ensures rows { λ r. ⌜ now (rows .exit)
+        ≡ deskWalk (now (file .entry)) (now (rows .entry)) room .rows ⌝ }
 {
     let most = lent(room);
     let unset = unset_line();

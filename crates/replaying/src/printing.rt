@@ -1,12 +1,10 @@
-// What is printed on standard output: the pieces of a line, and a submessage's line and a walk's end as the programs show
-// them. A write that fails is let pass: there is nowhere else to say so. What prints answers nothing, so it has no `ensures`.
+// What is printed on standard output: the pieces of a line. A write that fails is let pass: there
+// is nowhere else to say so. What prints answers nothing, so it has no `ensures`.
 ghost use mathlib.Core.Path.{_≡_};
 ghost use Prim.Native.Nat.{_<_};
 ghost use lib.IntN.{natAbs};
 ghost use Rattle.replaying.specs.Hexadecimal.{digitOf, twoDigits};
 use index::End;
-use index::Line;
-use index::LocalUsePlace;
 use index::Outcome;
 use index::end_of;
 use libc::STDOUT_FILENO;
@@ -84,39 +82,6 @@ fn digit(number: u8) -> u8
         return b'0' + number;
     }
     b'a' + (number - 10)
-}
-
-// Message and submessage number, then the nine places; `-` for no section 2.
-pub(crate) fn submessage(line: Line) {
-    let indicator = line.indicator;
-    let identification = line.identification;
-    let local = line.local;
-    let grid = line.grid;
-    let product = line.product;
-    let representation = line.representation;
-    let bitmap = line.bitmap;
-    let values = line.values;
-    let end = line.end;
-    decimal(line.message);
-    text(b".");
-    decimal(line.submessage);
-    field(indicator.0);
-    field(identification.0);
-    local_use(local);
-    field(grid.0);
-    field(product.0);
-    field(representation.0);
-    field(bitmap.0);
-    field(values.0);
-    field(end.0);
-    line_end();
-}
-
-fn local_use(local: LocalUsePlace) {
-    match local {
-        LocalUsePlace::At(place) => field(place.0),
-        LocalUsePlace::Absent => text(b" -"),
-    }
 }
 
 // Document 01's outcome, place, offset and detail of a walk's end.

@@ -1,29 +1,32 @@
-// The answers of a pull reader, a line for each call (docs/REPLAY.md, kind `P`).
+// The answers of a pull reader, a line for each call (docs/REPLAY.md, kind `P`). It is asked by
+// `pull_at`, which the reader's own `next` is proved equal to (the contract of `next`, in crate
+// `pull`).
 ghost use mathlib.Core.Path.{_≡_};
 ghost use mathlib.Core.Bool.{true};
 ghost use Prim.Native.Nat.{_<_};
 use crate::printing::line_end;
 use crate::printing::outcome;
 use crate::printing::text;
-use crate::walks::section_line;
+use crate::walk_lines::section_line;
 use index::Listed;
 use index::Outcome;
 use pull::Pulled;
 use pull::first;
 use pull::pull_at;
 
-// Of a file of so many octets fewer sections are passed; then come a refusal at the most, and two ends.
+// Of a file of so many octets fewer sections are passed; then come a refusal at the most, and two
+// ends.
 const FURTHER_CALLS: u64 = 3;
 
-// Whether the reader is called again, how often it has ended, and how many calls are left: that number falls with
-// each, so that the calls end whatever the reader says.
+// Whether the reader is called again, how often it has ended, and how many calls are left: that
+// number falls with each, so that the calls end whatever the reader says.
 pub(crate) struct Telling {
     pub(crate) going: bool,
     pub(crate) ended: u64,
     pub(crate) left: u64,
 }
 
-// Pulls until the second end, by the call that the reader's own `next` is proved equal to.
+// Pulls until the second end.
 pub(crate) fn answer_pull(file: &[u8]) {
     let mut t = untold(file);
     let mut progress = first(file);

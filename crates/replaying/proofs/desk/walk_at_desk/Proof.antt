@@ -1,6 +1,6 @@
--- `walk_at_desk` meets its contract: a walk of its MIR, by hand. All that it knows of `lent`, `unset_line` and `walk` is that each
--- meets its contract. The desk's lines are a local array: the first of them are lent for the call, and all are read after it.
--- Assumes nothing.
+-- `walk_at_desk` meets its contract: a walk of its MIR, by hand. All that it knows of `lent`,
+-- `unset_line` and `walk` is that each meets its contract. The desk's lines are a local array:
+-- the first of them are lent for the call, and all are read after it.
 mod Table
 mod CallLent
 mod CallUnset
@@ -185,7 +185,8 @@ module _ {M : Type 1} (𝓤 : URA M) (H : Heap 𝓤) (A : Atoms 𝓤) (W : Given
         pass1 ! (init ! 22 refl (tt, (tt, (record { fits = room₀ .0 }, tt)))) $
         pass1 ! (init ! 20 refl (tt, (tt, (record { fits = room₁ .0 }, tt)))) $
         pass1 ! (init ! 18 refl (tt, record { fits = room-fits })) $ pass0 ! $
-        -- [_12; …; _11; …; …; _0; …; the file; its token; rows; their token]: how many lines are lent
+        -- [_12; …; _11; …; …; _0; …; the file; its token; rows; their token]: how many lines are
+        -- lent
         use0 W (raw (C #lent (vint w64 room ∷ []) After₁)) (L.lends 𝓤 H A W mem run room room-fits C fm known-lent) $
         calls-from ! fm (raw (C #lent (vint w64 room ∷ []) After₁)) (vint w64 room ∷ []) After₁ (id⊢ 𝓤 _)
         (and-then ! (load ! (from ! (stop !)) (look ! 19 refl)) (no-more !)) (λ r.
@@ -232,11 +233,13 @@ module _ {M : Type 1} (𝓤 : URA M) (H : Heap 𝓤) (A : Atoms 𝓤) (W : Given
         ⊛ ‵ (Front l₆ (meant .lines)))))
         (id⊢ 𝓤 _) $ await ! tt $ learn ! (λ got.
         split ! $ move ! (1 ∷ []) $ split ! $ move ! (1 ∷ []) $ split ! $ move ! (1 ∷ []) $ split ! $ move ! (1 ∷ []) $
-        -- [the lines in front; rows' token; the last rows; the file's token; the file; the lines behind; _12; …]
+        -- [the lines in front; rows' token; the last rows; the file's token; the file; the lines
+        -- behind; _12; …]
         move ! (0 ∷ 5 ∷ []) $
         use2 W (given (LinesAre lines (linesVal lines)) (‵ (fat fullShare (tyArray T′.mir 512) l₆ 0 (linesVal lines))))
         (again 𝓤 H A W room l₆ (meant .lines) lines (lines-are (file .now) (rows .now) room) (got .1 .1)) $ learn ! (λ are.
-        -- [_6; rows' token; the last rows; the file's token; the file; _12; …; …; _7; …; that _6 dies; _5; …; …; _0; …]
+        -- [_6; rows' token; the last rows; the file's token; the file; _12; …; …; _7; …; that _6
+        -- dies; _5; …; …; _0; …]
         land ! (from ! (stop !)) (init ! 15 refl (LL.lawful N.the-type N′.the-laws 𝓤 H A W .typed (meant .answer) _ (got .0) .0)) $
         assigns ! (of-opd ! (load ! (from ! (stop !)) (look ! 0 refl)))
         (from ! (stop !)) (init ! 5 refl (lines-typed 𝓤 H A W lines (linesVal lines) are)) $

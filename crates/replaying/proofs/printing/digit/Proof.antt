@@ -1,4 +1,4 @@
--- `printing::digit` meets its contract: a digit under ten, or a letter. Assumes nothing.
+-- `printing::digit` meets its contract: a digit under ten, or a letter.
 use borrow.Author.Needs.{needs}
 use borrow.Author.Tests.{lt-ltb, le-ltb}
 use Rattle.replaying.specs.Hexadecimal.{digitOf}

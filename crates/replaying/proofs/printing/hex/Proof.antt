@@ -1,4 +1,4 @@
--- `printing::hex` meets its contract: no octet past the last is shown. Assumes nothing.
+-- `printing::hex` meets its contract: no octet past the last is shown.
 use Prim.Native.Nat.{_-_, _≤_}
 use borrow.Author.Needs.{needs}
 use lib.ListN.{length}

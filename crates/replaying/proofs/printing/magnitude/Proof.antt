@@ -1,4 +1,4 @@
--- `printing::magnitude` meets its contract: every `i32` has its negative among the `i64`. Assumes nothing.
+-- `printing::magnitude` meets its contract: every `i32` has its negative among the `i64`.
 use mathlib.Core.Path.{_≡_, refl, ap, _∙_}
 use mathlib.Core.Bool.{true, false}
 use Prim.Native.Nat.{ℕ, suc}

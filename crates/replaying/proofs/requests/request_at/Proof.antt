@@ -1,4 +1,4 @@
--- `requests::request_at` meets its contract: no octet stands there, or one of a kind, or of none. Assumes nothing.
+-- `requests::request_at` meets its contract: no octet stands there, or one of a kind, or of none.
 use mathlib.Core.Path.{_∙_}
 use borrow.Author.Tests.{le-leb, lt-leb, ne-eqb}
 use borrow.Author.Needs.{needs}
@@ -13,47 +13,47 @@ returns c = simp (le-leb _ _ (c .if1 .taken))
 shared-slice-read-kind : tie.Need-shared-slice-read-kind
 shared-slice-read-kind c = search needs
 
-walk-at-requires : tie.Need-walk-at-requires
-walk-at-requires c κs = search needs
+walk-request-at-requires : tie.Need-walk-request-at-requires
+walk-request-at-requires c κs = search needs
 
-pull-at-requires : tie.Need-pull-at-requires
-pull-at-requires c κs = search needs
+pull-request-at-requires : tie.Need-pull-request-at-requires
+pull-request-at-requires c κs = search needs
 
-copy-at-requires : tie.Need-copy-at-requires
-copy-at-requires c κs = search needs
+copy-request-at-requires : tie.Need-copy-request-at-requires
+copy-request-at-requires c κs = search needs
 
-write-at-requires : tie.Need-write-at-requires
-write-at-requires c κs = search needs
+write-request-at-requires : tie.Need-write-request-at-requires
+write-request-at-requires c κs = search needs
 
-fields-at-requires : tie.Need-fields-at-requires
-fields-at-requires c κs = search needs
+fields-request-at-requires : tie.Need-fields-request-at-requires
+fields-request-at-requires c κs = search needs
 
-signed-at-requires : tie.Need-signed-at-requires
-signed-at-requires c κs = search needs
+signed-request-at-requires : tie.Need-signed-request-at-requires
+signed-request-at-requires c κs = search needs
 
 returns-2 : tie.Need-returns-2
 unfolding requestAt
-returns-2 c = c .walk-at .ensures ∙ simp (lt-leb _ _ (c .before .before .before .if1 .left), c .before .match .keys1)
+returns-2 c = c .walk-request-at .ensures ∙ simp (lt-leb _ _ (c .before .before .before .if1 .left), c .before .match .keys1)
 
 returns-3 : tie.Need-returns-3
 unfolding requestAt
-returns-3 c = c .pull-at .ensures ∙ simp (lt-leb _ _ (c .before .before .before .if1 .left), c .before .match .keys2)
+returns-3 c = c .pull-request-at .ensures ∙ simp (lt-leb _ _ (c .before .before .before .if1 .left), c .before .match .keys2)
 
 returns-4 : tie.Need-returns-4
 unfolding requestAt
-returns-4 c = c .copy-at .ensures ∙ simp (lt-leb _ _ (c .before .before .before .if1 .left), c .before .match .keys3)
+returns-4 c = c .copy-request-at .ensures ∙ simp (lt-leb _ _ (c .before .before .before .if1 .left), c .before .match .keys3)
 
 returns-5 : tie.Need-returns-5
 unfolding requestAt
-returns-5 c = c .write-at .ensures ∙ simp (lt-leb _ _ (c .before .before .before .if1 .left), c .before .match .keys4)
+returns-5 c = c .write-request-at .ensures ∙ simp (lt-leb _ _ (c .before .before .before .if1 .left), c .before .match .keys4)
 
 returns-6 : tie.Need-returns-6
 unfolding requestAt
-returns-6 c = c .fields-at .ensures ∙ simp (lt-leb _ _ (c .before .before .before .if1 .left), c .before .match .keys5)
+returns-6 c = c .fields-request-at .ensures ∙ simp (lt-leb _ _ (c .before .before .before .if1 .left), c .before .match .keys5)
 
 returns-7 : tie.Need-returns-7
 unfolding requestAt
-returns-7 c = c .signed-at .ensures ∙ simp (lt-leb _ _ (c .before .before .before .if1 .left), c .before .match .keys6)
+returns-7 c = c .signed-request-at .ensures ∙ simp (lt-leb _ _ (c .before .before .before .if1 .left), c .before .match .keys6)
 
 returns-8 : tie.Need-returns-8
 unfolding requestAt
@@ -75,12 +75,12 @@ request-at-spec =
     (tie.spec
     returns
     shared-slice-read-kind
-    walk-at-requires
-    pull-at-requires
-    copy-at-requires
-    write-at-requires
-    fields-at-requires
-    signed-at-requires
+    walk-request-at-requires
+    pull-request-at-requires
+    copy-request-at-requires
+    write-request-at-requires
+    fields-request-at-requires
+    signed-request-at-requires
     returns-2
     returns-3
     returns-4

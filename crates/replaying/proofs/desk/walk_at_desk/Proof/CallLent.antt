@@ -1,5 +1,5 @@
--- A call of `lent`, as an entailment that a walk cites: it gives as many lines as are asked for, and the desk has.
--- The laws take `Given`. Assumes nothing.
+-- A call of `lent`, as an entailment that a walk cites: it gives as many lines as are asked for,
+-- and the desk has. The laws take `Given`.
 use mathlib.Core.Path.{_≡_, refl, ap, _∙_, sym}
 use Prim.Native.Nat.{ℕ, _<_, _^_, min}
 use mathlib.Core.List.{[], _∷_}

@@ -1,5 +1,6 @@
--- A call of `walk` with lines of the caller's own, as an entailment that a walk cites: the file is lent as it is, the rows go at
--- their own lifetime and are given up, and the lines are lent for the call and come back. The laws take `Given`. Assumes nothing.
+-- A call of `walk` with lines of the caller's own, as an entailment that a walk cites: the file
+-- is lent as it is, the rows go at their own lifetime and are given up, and the lines are lent
+-- for the call and come back. The laws take `Given`.
 use mathlib.Core.Path.{_≡_, refl, subst}
 use Prim.Native.Nat.{ℕ}
 use mathlib.Core.List.{[], _∷_, List}
@@ -141,7 +142,8 @@ module _ {M : Type 1} (𝓤 : URA M) (H : Heap 𝓤) (A : Atoms 𝓤) (W : Given
       move ! (3 ∷ []) $ split ! $ move ! (1 ∷ []) $ rewrite ! 0 (λ (t : Answer). ‵ (N.the-row .own t (r ∷ []))) e₀ refl $
       peeks ! N.the-row (Is N.the-row) (shows 𝓤 H A N.the-row) (meant .answer) (r ∷ []) (λ is. drop ! $
       split ! $ move ! (1 ∷ []) $ split ! $ move ! (1 ∷ []) $ split ! $ lft-end ! tt $
-      -- [dead ν; true; the rows' token; the file's; the last lines; …; the last rows; the file and what was kept]
+      -- [dead ν; true; the rows' token; the file's; the last lines; …; the last rows; the file
+      -- and what was kept]
       move ! (7 ∷ []) $ fsplit ! $ move ! (2 ∷ 1 ∷ 6 ∷ []) $
       use3 W (later (‵ (Arr (mem T.the-row) (length xs) .lies (last .1 .1 .0) b 0)))
       (slice-back 𝓤 H A W T.the-row (ν ∷ []) δ (last .1 .1 .0) (length xs) b 0) $ await ! tt $ fsplit ! $ drop ! $
@@ -166,7 +168,8 @@ module _ {M : Type 1} (𝓤 : URA M) (H : Heap 𝓤) (A : Atoms 𝓤) (W : Given
         -- [the lines, lent; what is due; ν's token; the file; its token; the rows; their token]
         move ! (3 ∷ []) $ use1 W (‵ File ⊛ ‵ File) (shr-slice-copy 𝓤 H A W (named 0) κ₀ u8 .twice file (v₀ ∷ [])) $ split ! $
         move ! (0 ∷ 3 ∷ []) $ fjoin ! $
-        -- [the file and what is due; the file; the lines; ν's token; the file's token; the rows; their token]
+        -- [the file and what is due; the file; the lines; ν's token; the file's token; the rows;
+        -- their token]
         move ! (1 ∷ 4 ∷ 5 ∷ 6 ∷ 2 ∷ 3 ∷ []) $
         cut (Goes ν δ) (raw (Contr .pre (to ν δ)) ∷ []) (‵ (Kept ν δ) ∷ []) (goes ν δ) $
         use1 W (raw (C #walk passed (Contr .post (to ν δ)))) (known (to ν δ)) $

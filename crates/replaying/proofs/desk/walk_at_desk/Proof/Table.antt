@@ -1,6 +1,7 @@
--- The 512 lines of a desk: unset lines before they are lent, so many of them in front, which are lent, and the others behind. A local
--- array of them is taken apart into the two, and is whole again with other lines in front. The machine values of 512 lines stay
--- shut: a walk would compute them at every step. The laws take `Given`. Assumes nothing.
+-- The 512 lines of a desk: unset lines before they are lent, so many of them in front, which are
+-- lent, and the others behind. A local array of them is taken apart into the two, and is whole
+-- again with other lines in front. The machine values of 512 lines stay shut: a walk would
+-- compute them at every step. The laws take `Given`.
 use mathlib.Core.Path.{_≡_, refl, sym, _∙_, ap, subst}
 use Prim.Native.Nat.{ℕ, zero, suc, _+_, _-_, _*_, _<_, _≤_, _^_, min}
 use native.Mathlib.Nat.{min-le-right}

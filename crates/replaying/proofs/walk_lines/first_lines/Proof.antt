@@ -1,8 +1,9 @@
--- `first_lines` meets its contract: no line past the count is shown, and so none past the table. Assumes nothing.
+-- `walk_lines::first_lines` meets its contract: no line past the count is shown, and so none past
+-- the table.
 use Prim.Native.Nat.{_≤_, _-_}
 use borrow.Author.Needs.{needs}
-use Rattle.replaying.proofs.gribwalk.first_lines.Statement.{statement}
-use Rattle.replaying.proofs.gribwalk.first_lines.Tie as tie
+use Rattle.replaying.proofs.walk_lines.first_lines.Statement.{statement}
+use Rattle.replaying.proofs.walk_lines.first_lines.Tie as tie
 
 abbrev Inv-loop : tie.InvT-loop
 Inv-loop head count lines i₀ i = i ≤ count

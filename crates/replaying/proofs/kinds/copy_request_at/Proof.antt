@@ -1,11 +1,11 @@
--- `requests::copy_at` meets its contract: the end of the input cuts the numbers, or the file, or nothing, and then the destination is over its
--- limit, or not. Assumes nothing.
+-- `kinds::copy_request_at` meets its contract: the end of the input cuts the numbers, or the
+-- file, or nothing, and then the destination is over its limit, or not.
 use mathlib.Core.Path.{refl}
 use native.Mathlib.Omega.{arith}
 use borrow.Author.Needs.{needs}
-use Rattle.replaying.proofs.Places.{copy-cut, copy-room-over, copy-whole}
-use Rattle.replaying.proofs.requests.copy_at.Statement.{statement}
-use Rattle.replaying.proofs.requests.copy_at.Tie as tie
+use Rattle.replaying.proofs.EachKind.{copy-cut, copy-room-over, copy-whole}
+use Rattle.replaying.proofs.kinds.copy_request_at.Statement.{statement}
+use Rattle.replaying.proofs.kinds.copy_request_at.Tie as tie
 
 sub-if1 : tie.Need-sub-if1
 sub-if1 c = search needs
@@ -52,8 +52,8 @@ returns-4 c =
     let f = c .before .before in
     copy-whole _ _ _ _ (f .before .four-octets .ensures) (f .four-octets2 .ensures) (omega arith) (omega arith)
 
-pub copy-at-spec : {M : Type 1} → statement M
-copy-at-spec =
+pub copy-request-at-spec : {M : Type 1} → statement M
+copy-request-at-spec =
     tie.close
     (tie.spec
     sub-if1

@@ -1,9 +1,10 @@
--- `requests::fields_at` meets its contract: the end of the input cuts the numbers, or the payload, or nothing. Assumes nothing.
+-- `kinds::fields_request_at` meets its contract: the end of the input cuts the numbers, or the
+-- payload, or nothing.
 use native.Mathlib.Omega.{arith}
 use borrow.Author.Needs.{needs}
-use Rattle.replaying.proofs.Places.{fields-cut, fields-whole}
-use Rattle.replaying.proofs.requests.fields_at.Statement.{statement}
-use Rattle.replaying.proofs.requests.fields_at.Tie as tie
+use Rattle.replaying.proofs.EachKind.{fields-cut, fields-whole}
+use Rattle.replaying.proofs.kinds.fields_request_at.Statement.{statement}
+use Rattle.replaying.proofs.kinds.fields_request_at.Tie as tie
 
 sub-if1 : tie.Need-sub-if1
 sub-if1 c = search needs
@@ -41,8 +42,8 @@ add-t5 c = search needs
 returns-3 : tie.Need-returns-3
 returns-3 c = fields-whole _ _ _ (c .before .before .four-octets .ensures) (omega arith)
 
-pub fields-at-spec : {M : Type 1} → statement M
-fields-at-spec =
+pub fields-request-at-spec : {M : Type 1} → statement M
+fields-request-at-spec =
     tie.close
     (tie.spec
     sub-if1

@@ -1,4 +1,4 @@
--- `requests::four_octets` meets its contract: the four octets are those of the place. Assumes nothing.
+-- `numbers::four_octets` meets its contract: the four octets are those of the place.
 use mathlib.Core.Path.{_≡_, _∙_}
 use mathlib.Core.List.{List, [], _∷_}
 use Prim.Native.Nat.{ℕ, _+_}
@@ -6,8 +6,8 @@ use native.Mathlib.Numerals.{unary-clauses}
 use borrow.Author.Needs.{needs}
 use lib.ListN.{getD}
 use Rattle.octets.specs.BigEndian.{beAt}
-use Rattle.replaying.proofs.requests.four_octets.Statement.{statement}
-use Rattle.replaying.proofs.requests.four_octets.Tie as tie
+use Rattle.replaying.proofs.numbers.four_octets.Statement.{statement}
+use Rattle.replaying.proofs.numbers.four_octets.Tie as tie
 
 -- four octets, read one by one
 four : (s : List ℕ) (at : ℕ) → beAt (getD s at 0 ∷ getD s (at + 1) 0 ∷ getD s (at + 2) 0 ∷ getD s (at + 3) 0 ∷ []) 0 4 ≡ beAt s at 4

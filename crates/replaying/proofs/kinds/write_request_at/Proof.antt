@@ -1,11 +1,11 @@
--- `requests::write_at` meets its contract: the end of the input cuts the numbers, or the plan, or what is behind it, or nothing, and then the
--- destination is over its limit, or not. Assumes nothing.
+-- `kinds::write_request_at` meets its contract: the end of the input cuts the numbers, or the
+-- plan, or what is behind it, or nothing, and then the destination is over its limit, or not.
 use mathlib.Core.Path.{refl}
 use native.Mathlib.Omega.{arith}
 use borrow.Author.Needs.{needs}
-use Rattle.replaying.proofs.Places.{write-cut, write-room-over, write-whole}
-use Rattle.replaying.proofs.requests.write_at.Statement.{statement}
-use Rattle.replaying.proofs.requests.write_at.Tie as tie
+use Rattle.replaying.proofs.EachKind.{write-cut, write-room-over, write-whole}
+use Rattle.replaying.proofs.kinds.write_request_at.Statement.{statement}
+use Rattle.replaying.proofs.kinds.write_request_at.Tie as tie
 
 returns : tie.Need-returns
 returns c = write-cut _ _ _ _ _ refl refl refl (omega arith)
@@ -32,8 +32,8 @@ returns-5 c =
     write-whole _ _ _ _ _ (f .before .before .two-octets .ensures) (f .four-octets .ensures) (d .four-octets2 .ensures)
     (omega arith) (omega arith)
 
-pub write-at-spec : {M : Type 1} → statement M
-write-at-spec =
+pub write-request-at-spec : {M : Type 1} → statement M
+write-request-at-spec =
     tie.close
     (tie.spec
     (λ c. search needs)

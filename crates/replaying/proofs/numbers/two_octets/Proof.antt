@@ -1,4 +1,4 @@
--- `requests::two_octets` meets its contract: the two octets are those of the place. Assumes nothing.
+-- `numbers::two_octets` meets its contract: the two octets are those of the place.
 use mathlib.Core.Path.{_≡_, _∙_}
 use mathlib.Core.List.{List, [], _∷_}
 use Prim.Native.Nat.{ℕ, _+_}
@@ -6,8 +6,8 @@ use native.Mathlib.Numerals.{unary-clauses}
 use borrow.Author.Needs.{needs}
 use lib.ListN.{getD}
 use Rattle.octets.specs.BigEndian.{beAt}
-use Rattle.replaying.proofs.requests.two_octets.Statement.{statement}
-use Rattle.replaying.proofs.requests.two_octets.Tie as tie
+use Rattle.replaying.proofs.numbers.two_octets.Statement.{statement}
+use Rattle.replaying.proofs.numbers.two_octets.Tie as tie
 
 -- two octets, read one by one
 two : (s : List ℕ) (at : ℕ) → beAt (getD s at 0 ∷ getD s (at + 1) 0 ∷ []) 0 2 ≡ beAt s at 2

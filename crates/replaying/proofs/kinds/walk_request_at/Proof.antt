@@ -1,10 +1,11 @@
--- `requests::walk_at` meets its contract: the end of the input cuts the numbers, or the file, or nothing, and then a table is over its limit, or none. Assumes nothing.
+-- `kinds::walk_request_at` meets its contract: the end of the input cuts the numbers, or the
+-- file, or nothing, and then a table is over its limit, or none.
 use mathlib.Core.Path.{refl}
 use native.Mathlib.Omega.{arith}
 use borrow.Author.Needs.{needs}
-use Rattle.replaying.proofs.Places.{walk-cut, walk-numbers-over, walk-lines-over, walk-whole}
-use Rattle.replaying.proofs.requests.walk_at.Statement.{statement}
-use Rattle.replaying.proofs.requests.walk_at.Tie as tie
+use Rattle.replaying.proofs.EachKind.{walk-cut, walk-numbers-over, walk-lines-over, walk-whole}
+use Rattle.replaying.proofs.kinds.walk_request_at.Statement.{statement}
+use Rattle.replaying.proofs.kinds.walk_request_at.Tie as tie
 
 sub-if1 : tie.Need-sub-if1
 sub-if1 c = search needs
@@ -62,8 +63,8 @@ returns-5 c =
     let f = c .before .before .before in
     walk-whole _ _ _ _ _ (f .before .before .two-octets .ensures) (f .before .two-octets2 .ensures) (f .four-octets .ensures) (omega arith) (omega arith) (omega arith)
 
-pub walk-at-spec : {M : Type 1} → statement M
-walk-at-spec =
+pub walk-request-at-spec : {M : Type 1} → statement M
+walk-request-at-spec =
     tie.close
     (tie.spec
     sub-if1

@@ -1,10 +1,11 @@
--- `requests::signed_at` meets its contract: the end of the input cuts the length, or the octets, or nothing. Assumes nothing.
+-- `kinds::signed_request_at` meets its contract: the end of the input cuts the length, or the
+-- octets, or nothing.
 use Prim.Native.Nat.{_+_}
 use native.Mathlib.Omega.{arith}
 use borrow.Author.Needs.{needs}
-use Rattle.replaying.proofs.Places.{signed-cut, signed-whole}
-use Rattle.replaying.proofs.requests.signed_at.Statement.{statement}
-use Rattle.replaying.proofs.requests.signed_at.Tie as tie
+use Rattle.replaying.proofs.EachKind.{signed-cut, signed-whole}
+use Rattle.replaying.proofs.kinds.signed_request_at.Statement.{statement}
+use Rattle.replaying.proofs.kinds.signed_request_at.Tie as tie
 
 sub-if1 : tie.Need-sub-if1
 sub-if1 c = search needs
@@ -36,8 +37,8 @@ add-t6 c = search needs
 returns-3 : tie.Need-returns-3
 returns-3 c = signed-whole _ _ (omega arith)
 
-pub signed-at-spec : {M : Type 1} → statement M
-signed-at-spec =
+pub signed-request-at-spec : {M : Type 1} → statement M
+signed-request-at-spec =
     tie.close
     (tie.spec
     sub-if1

@@ -1,9 +1,10 @@
--- `requests::pull_at` meets its contract: the end of the input cuts the length, or the file, or nothing. Assumes nothing.
+-- `kinds::pull_request_at` meets its contract: the end of the input cuts the length, or the file,
+-- or nothing.
 use native.Mathlib.Omega.{arith}
 use borrow.Author.Needs.{needs}
-use Rattle.replaying.proofs.Places.{pull-cut, pull-whole}
-use Rattle.replaying.proofs.requests.pull_at.Statement.{statement}
-use Rattle.replaying.proofs.requests.pull_at.Tie as tie
+use Rattle.replaying.proofs.EachKind.{pull-cut, pull-whole}
+use Rattle.replaying.proofs.kinds.pull_request_at.Statement.{statement}
+use Rattle.replaying.proofs.kinds.pull_request_at.Tie as tie
 
 sub-if1 : tie.Need-sub-if1
 sub-if1 c = search needs
@@ -35,8 +36,8 @@ add-t6 c = search needs
 returns-3 : tie.Need-returns-3
 returns-3 c = pull-whole _ _ _ (c .before .four-octets .ensures) (omega arith)
 
-pub pull-at-spec : {M : Type 1} → statement M
-pull-at-spec =
+pub pull-request-at-spec : {M : Type 1} → statement M
+pull-request-at-spec =
     tie.close
     (tie.spec
     sub-if1

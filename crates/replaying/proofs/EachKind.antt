@@ -1,0 +1,168 @@
+-- The laws of each kind of request: that it is bad where its end lies past the input's, and where a
+-- table or a destination is over its limit; itself where not; and that its octets then stand.
+use mathlib.Core.Path.{_≡_, refl}
+use mathlib.Core.Bool.{Bool, true, false}
+use mathlib.Core.List.{List}
+use Prim.Native.Nat.{ℕ, _+_, _*_, _<_, _≤_}
+use native.Mathlib.Omega.{arith}
+use borrow.Author.Tests.{lt-ltb, le-ltb, ltb-false}
+use lib.Dec.{ltb}
+use lib.ListN.{length, getD}
+use Rattle.octets.specs.Choice.{pick}
+use Rattle.octets.specs.BigEndian.{beAt}
+use Rattle.replaying.specs.Requests.{walkRequestAt, pullRequestAt, copyRequestAt}
+use Rattle.replaying.specs.Requests.{writeRequestAt, fieldsRequestAt, signedRequestAt}
+use Rattle.replaying.specs.declared.requests.Writing.{Writing}
+use Rattle.replaying.specs.declared.requests.Request.the-variants.{Walk, Pull, Copy, Write, Fields, Signed, Bad}
+use Rattle.replaying.proofs.Stands.{Stands}
+
+-- what holds of both answers of a test, each where the test says so, holds of the one picked
+pub pick-by : {A : Type 0} (P : A → Type 0) (t : Bool) {a b : A} → (t ≡ true → P a) → (t ≡ false → P b) → P (pick t a b)
+pick-by P true f g = f refl
+pick-by P false f g = g refl
+
+-- `W`; `n`, `m` and `size` are what its numbers say
+module _ (s : List ℕ) (at n m size : ℕ) (en : n ≡ beAt s (at + 1) 2) (em : m ≡ beAt s (at + 3) 2) (es : size ≡ beAt s (at + 5) 4) where
+  pub walk-cut : length s < at + 9 + size → Bad ≡ walkRequestAt s at
+  unfolding walkRequestAt
+  walk-cut h = simp (← es, lt-ltb _ _ h)
+
+  pub walk-numbers-over : at + 9 + size ≤ length s → 6144 < n → Bad ≡ walkRequestAt s at
+  unfolding walkRequestAt
+  walk-numbers-over h o = simp (← es, ← en, le-ltb _ _ h, lt-ltb _ _ o)
+
+  pub walk-lines-over : at + 9 + size ≤ length s → n ≤ 6144 → 512 < m → Bad ≡ walkRequestAt s at
+  unfolding walkRequestAt
+  walk-lines-over h k o = simp (← es, ← en, ← em, le-ltb _ _ h, le-ltb _ _ k, lt-ltb _ _ o)
+
+  pub walk-whole : at + 9 + size ≤ length s → n ≤ 6144 → m ≤ 512 → Walk n m (at + 9) (at + 9 + size) ≡ walkRequestAt s at
+  unfolding walkRequestAt
+  walk-whole h k l = simp (← es, ← en, ← em, le-ltb _ _ h, le-ltb _ _ k, le-ltb _ _ l)
+
+pub walk-stands : (s : List ℕ) (at : ℕ) → Stands s at (walkRequestAt s at)
+unfolding walkRequestAt
+walk-stands s at =
+    pick-by (Stands s at) (ltb (length s) (at + 9 + beAt s (at + 5) 4)) (λ e. tt) (λ e.
+    pick-by (Stands s at) (ltb 6144 (beAt s (at + 1) 2)) (λ e. tt) (λ f.
+    pick-by (Stands s at) (ltb 512 (beAt s (at + 3) 2)) (λ e. tt) (λ g.
+    record {
+      octets = record { behind = omega arith; ordered = omega arith; within = ltb-false _ _ e };
+      numbers = ltb-false _ _ f;
+      lines = ltb-false _ _ g;
+    })))
+
+-- `P`
+module _ (s : List ℕ) (at : ℕ) where
+  pub pull-cut : length s < at + 5 + beAt s (at + 1) 4 → Bad ≡ pullRequestAt s at
+  unfolding pullRequestAt
+  pull-cut h = simp (lt-ltb _ _ h)
+
+  pub pull-whole : (size : ℕ) → size ≡ beAt s (at + 1) 4 → at + 5 + size ≤ length s → Pull (at + 5) (at + 5 + size) ≡ pullRequestAt s at
+  unfolding pullRequestAt
+  pull-whole size e h = simp (← e, le-ltb _ _ h)
+
+  pub pull-stands : Stands s at (pullRequestAt s at)
+  unfolding pullRequestAt
+  pull-stands =
+      pick-by (Stands s at) (ltb (length s) (at + 5 + beAt s (at + 1) 4)) (λ e. tt) (λ e.
+      record { behind = omega arith; ordered = omega arith; within = ltb-false _ _ e })
+
+-- `C`; `d` and `size` are what its numbers say
+module _ (s : List ℕ) (at d size : ℕ) (ed : d ≡ beAt s (at + 1) 4) (es : size ≡ beAt s (at + 5) 4) where
+  pub copy-cut : length s < at + 9 + size → Bad ≡ copyRequestAt s at
+  unfolding copyRequestAt
+  copy-cut h = simp (← es, lt-ltb _ _ h)
+
+  pub copy-room-over : at + 9 + size ≤ length s → 262144 < d → Bad ≡ copyRequestAt s at
+  unfolding copyRequestAt
+  copy-room-over h o = simp (← es, ← ed, le-ltb _ _ h, lt-ltb _ _ o)
+
+  pub copy-whole : at + 9 + size ≤ length s → d ≤ 262144 → Copy d (at + 9) (at + 9 + size) ≡ copyRequestAt s at
+  unfolding copyRequestAt
+  copy-whole h k = simp (← es, ← ed, le-ltb _ _ h, le-ltb _ _ k)
+
+pub copy-stands : (s : List ℕ) (at : ℕ) → Stands s at (copyRequestAt s at)
+unfolding copyRequestAt
+copy-stands s at =
+    pick-by (Stands s at) (ltb (length s) (at + 9 + beAt s (at + 5) 4)) (λ e. tt) (λ e.
+    pick-by (Stands s at) (ltb 262144 (beAt s (at + 1) 4)) (λ e. tt) (λ f.
+    record {
+      octets = record { behind = omega arith; ordered = omega arith; within = ltb-false _ _ e };
+      room = ltb-false _ _ f;
+    }))
+
+-- `M`; `k`, `size` and `d` are what its numbers say
+module _ (s : List ℕ) (at k size d : ℕ) (ek : k ≡ beAt s (at + 4) 2) (es : size ≡ beAt s (at + 6 + k * 24) 4)
+    (ed : d ≡ beAt s (at + 6 + k * 24 + 4 + size) 4) where
+  pub write-cut : length s < at + 6 + k * 24 + 4 + size + 4 → Bad ≡ writeRequestAt s at
+  unfolding writeRequestAt
+  write-cut h = simp (← ek, ← es, lt-ltb _ _ h)
+
+  pub write-room-over : at + 6 + k * 24 + 4 + size + 4 ≤ length s → 262144 < d → Bad ≡ writeRequestAt s at
+  unfolding writeRequestAt
+  write-room-over h o = simp (← ek, ← es, ← ed, le-ltb _ _ h, lt-ltb _ _ o)
+
+  -- a message to be written, whose places follow from these numbers
+  abbrev pub written : Writing
+  written =
+      record {
+        discipline = getD s (at + 1) 0;
+        first = getD s (at + 2) 0;
+        second = getD s (at + 3) 0;
+        plan = at + 6;
+        sections = k;
+        store = at + 6 + k * 24 + 4;
+        end = at + 6 + k * 24 + 4 + size;
+        room = d;
+        to = at + 6 + k * 24 + 4 + size + 4;
+      }
+
+  pub write-whole : at + 6 + k * 24 + 4 + size + 4 ≤ length s → d ≤ 262144 → Write written ≡ writeRequestAt s at
+  unfolding writeRequestAt
+  write-whole h l = simp (← ek, ← es, ← ed, le-ltb _ _ h, le-ltb _ _ l)
+
+pub write-stands : (s : List ℕ) (at : ℕ) → Stands s at (writeRequestAt s at)
+unfolding writeRequestAt
+write-stands s at =
+    let rows-end = at + 6 + beAt s (at + 4) 2 * 24 in
+    let end = rows-end + 4 + beAt s rows-end 4 in
+    pick-by (Stands s at) (ltb (length s) (end + 4)) (λ e. tt) (λ e.
+    pick-by (Stands s at) (ltb 262144 (beAt s end 4)) (λ e. tt) (λ f.
+    let inside = ltb-false (length s) (end + 4) e in
+    record {
+      planned = record { rows = omega arith; ordered = omega arith; within = omega arith; room = ltb-false _ _ f };
+      later = omega arith;
+      inside = inside;
+    }))
+
+-- `F`
+module _ (s : List ℕ) (at : ℕ) where
+  pub fields-cut : length s < at + 6 + beAt s (at + 2) 4 → Bad ≡ fieldsRequestAt s at
+  unfolding fieldsRequestAt
+  fields-cut h = simp (lt-ltb _ _ h)
+
+  pub fields-whole : (size : ℕ) → size ≡ beAt s (at + 2) 4 → at + 6 + size ≤ length s → Fields (getD s (at + 1) 0) (at + 6) (at + 6 + size) ≡ fieldsRequestAt s at
+  unfolding fieldsRequestAt
+  fields-whole size e h = simp (← e, le-ltb _ _ h)
+
+  pub fields-stands : Stands s at (fieldsRequestAt s at)
+  unfolding fieldsRequestAt
+  fields-stands =
+      pick-by (Stands s at) (ltb (length s) (at + 6 + beAt s (at + 2) 4)) (λ e. tt) (λ e.
+      record { behind = omega arith; ordered = omega arith; within = ltb-false _ _ e })
+
+-- `S`
+module _ (s : List ℕ) (at : ℕ) where
+  pub signed-cut : length s < at + 2 + getD s (at + 1) 0 → Bad ≡ signedRequestAt s at
+  unfolding signedRequestAt
+  signed-cut h = simp (lt-ltb _ _ h)
+
+  pub signed-whole : at + 2 + getD s (at + 1) 0 ≤ length s → Signed (at + 2) (at + 2 + getD s (at + 1) 0) ≡ signedRequestAt s at
+  unfolding signedRequestAt
+  signed-whole h = simp (le-ltb _ _ h)
+
+  pub signed-stands : Stands s at (signedRequestAt s at)
+  unfolding signedRequestAt
+  signed-stands =
+      pick-by (Stands s at) (ltb (length s) (at + 2 + getD s (at + 1) 0)) (λ e. tt) (λ e.
+      record { behind = omega arith; ordered = omega arith; within = ltb-false _ _ e })
