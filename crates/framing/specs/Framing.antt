@@ -1,5 +1,6 @@
--- One read: what stands at a place of a file, with so many octets of its message to come (01, "Framing", and the order
--- of refusals 2 to 9 in one section). It looks at no octet of a payload. Assumes nothing.
+-- One read: what stands at a place of a file, with so many octets of its message to come
+-- (01, "Framing", and the order of refusals 2 to 9 in one section). It looks at no octet of a
+-- payload.
 use Prim.Native.Nat.{ℕ, _+_, _-_}
 use mathlib.Core.Bool.{Bool, false, not, _&&_, _||_}
 use mathlib.Core.List.{List}
@@ -7,10 +8,21 @@ use lib.Dec.{ltb, leb, eqb}
 use lib.ListN.{length, getD}
 use Rattle.octets.specs.Choice.{pick}
 use Rattle.octets.specs.BigEndian.{beAt}
-use Rattle.sections.specs.Kinds.{leastPayloadOf}
+use Rattle.sections.specs.Kinds.{
+  headerSize,
+  gribEdition,
+  endMark,
+  indicator,
+  bitMap,
+  dataSection,
+  endSection,
+  wholeSize,
+  leastPayload,
+  leastPayloadOf,
+}
 use Rattle.sections.specs.declared.kinds.LeastPayload.{LeastPayload}
 use Rattle.sections.specs.declared.kinds.LeastPayload.the-variants.{Octets, NoHeader}
-use Rattle.framing.specs.Search.{says, nextStart}
+use Rattle.framing.specs.Search.{saysMark, nextStart}
 use Rattle.framing.specs.declared.search.Found.{Found}
 use Rattle.framing.specs.declared.search.Found.the-variants.{At, Nowhere}
 use Rattle.framing.specs.declared.read.Fault.{Fault}
@@ -46,27 +58,33 @@ unfoldable pub indicatorAt : List ℕ → ℕ → Read
 indicatorAt file g =
     let edition = getD file (g + 7) 0 in
     let total = beAt file (g + 8) 8 in
-    pick (not (eqb edition 2)) (refused (OtherEdition edition) g)
-    (pick (ltb total 16) (refused TotalUnder16 g)
-    (section 0 g 16 (total - 16)))
+    let size = wholeSize indicator in
+    pick (not (eqb edition gribEdition)) (refused (OtherEdition edition) g)
+    (pick (ltb total size) (refused TotalUnder16 g)
+    (section (indicator .number) g size (total - size)))
 
 -- section 8, with an octet left at least: 2, then 5
 unfoldable pub endAt : List ℕ → ℕ → Read
 endAt file at =
-    pick (ltb (length file - at) 4) (refused Cut at)
-    (pick (says file at 55 55 55 55) (section 8 at 4 0)
+    let size = wholeSize endSection in
+    pick (ltb (length file - at) size) (refused Cut at)
+    (pick (saysMark file at endMark) (section (endSection .number) at size 0)
     (refused NotEndMark at))
 
--- the file ends inside the payload: section 7 is skipped unread, and of a section 6 the indicator is read whatever its length
+-- the file ends inside the payload: section 7 is skipped unread, and of a section 6 the indicator
+-- is read whatever its length
 unfoldable pub isCut : ℕ → ℕ → ℕ → Bool
-isCut number len left = not (eqb number 7) && (ltb left len || (eqb number 6 && ltb left 6))
+isCut number len left =
+    let shortest = headerSize + leastPayload bitMap in
+    not (eqb number (dataSection .number))
+    && (ltb left len || (eqb number (bitMap .number) && ltb left shortest))
 
 -- a section behind its header, of a kind with this least payload: 7, 2 (payload), 8, 9
 unfoldable pub payloadAt : LeastPayload → ℕ → ℕ → ℕ → ℕ → ℕ → Read
 payloadAt NoHeader at number len left rest = refused (UnknownNumber number) at
 payloadAt (Octets least) at number len left rest =
     pick (isCut number len left) (refused Cut at)
-    (pick (ltb (len - 5) least) (refused (PayloadUnderLeast (len - 5)) at)
+    (pick (ltb (len - headerSize) least) (refused (PayloadUnderLeast (len - headerSize)) at)
     (pick (ltb rest len) (refused (LongerThanRest len) at)
     (section number at len (rest - len))))
 
@@ -76,8 +94,8 @@ headerAt file at rest =
     let left = length file - at in
     let len = beAt file at 4 in
     let number = getD file (at + 4) 0 in
-    pick (ltb left 5) (refused Cut at)
-    (pick (ltb len 5) (refused (LengthUnder5 len) at)
+    pick (ltb left headerSize) (refused Cut at)
+    (pick (ltb len headerSize) (refused (LengthUnder5 len) at)
     (payloadAt (leastPayloadOf number) at number len left rest))
 
 -- between messages: section 0 at the next start, or the input is over
@@ -85,15 +103,16 @@ unfoldable pub messageAt : List ℕ → Found → Read
 messageAt file (At g) = indicatorAt file g
 messageAt file Nowhere = Over
 
--- rest 0: search; no octet left: over; rest 4: section 8; any other rest: a header
+-- rest 0: search; no octet left: over; rest just a section 8: that; any other rest: a header
 unfoldable pub readAt : List ℕ → ℕ → ℕ → Read
 readAt file at rest =
     pick (eqb rest 0) (messageAt file (nextStart file at))
     (pick (leb (length file) at) Over
-    (pick (eqb rest 4) (endAt file at)
+    (pick (eqb rest (wholeSize endSection)) (endAt file at)
     (headerAt file at rest)))
 
--- a read, with each field set: where there is no section, its fields say nothing, but for the offset of one that is refused
+-- a read, with each field set: where there is no section, its fields say nothing, but for the
+-- offset of one that is refused
 abbrev pub without : How → ℕ → Framed
 without how at =
     record {

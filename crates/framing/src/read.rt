@@ -2,9 +2,10 @@
 ghost use mathlib.Core.Path.{_≡_};
 ghost use Prim.Native.Nat.{_+_, _^_, _<_, _≤_};
 ghost use lib.ListN.{length};
-ghost use Rattle.sections.specs.Kinds.{leastPayloadOf};
+ghost use Rattle.sections.specs.Kinds.{indicator, headerSize, wholeSize, leastPayloadOf};
 ghost use Rattle.framing.specs.Read.{Over};
-ghost use Rattle.framing.specs.Framing.{section, refused, without, framed, indicatorAt, endAt, isCut, payloadAt, headerAt, readAt};
+ghost use Rattle.framing.specs.Framing.{section, refused, without, framed, readAt};
+ghost use Rattle.framing.specs.Framing.{indicatorAt, endAt, headerAt, payloadAt, isCut};
 use crate::search::Found;
 use crate::search::next_start;
 use crate::search::says;
@@ -54,7 +55,8 @@ pub enum Fault {
     LongerThanRest(u64),
 }
 
-// A read as every way through the code answers it, each field always set: an enum whose variants differ costs a step a dozen copies.
+// A read as every way through the code answers it, each field always set: an enum whose variants
+// differ costs a step a dozen copies.
 pub struct Framed {
     pub how: How,
     // The section; of one that is refused the offset alone says something.
@@ -125,11 +127,11 @@ fn other_edition(edition: u8) -> Fault
 
 // Section 0, from its G on.
 fn indicator_at(file: &[u8], g: usize) -> Framed
-    requires { ⌜ g + 16 ≤ length (now file) ⌝ }
+    requires { ⌜ g + wholeSize indicator ≤ length (now file) ⌝ }
     ensures { λ r. ⌜ r ≡ framed (indicatorAt (now (file .entry)) g) ⌝ }
 {
     let edition = file[g + 7];
-    if edition != 2 {
+    if edition != Indicator::EDITION {
         return refuse(other_edition(edition), g);
     }
     let total = be64([
@@ -168,8 +170,8 @@ fn end_at(file: &[u8], at: usize) -> Framed
     }
 }
 
-// Does the file, with so many octets left from the header on, end inside the payload? Section 7 is skipped unread;
-// of a section 6 the indicator is read whatever its length says.
+// Does the file, with so many octets left from the header on, end inside the payload? Section 7 is
+// skipped unread; of a section 6 the indicator is read whatever its length says.
 fn is_cut(number: u64, length: u32, left: usize) -> bool
     ensures { λ r. ⌜ r ≡ isCut number length left ⌝ }
 {
@@ -187,7 +189,7 @@ fn is_cut(number: u64, length: u32, left: usize) -> bool
 
 // A section whose header says its number and its length, of which the header itself is a part.
 fn payload_at(at: usize, number: u8, length: u32, left: usize, rest: u64) -> Framed
-    requires { ⌜ (at + length < 2 ^ 64) × (5 ≤ length) ⌝ }
+    requires { ⌜ (at + length < 2 ^ 64) × (headerSize ≤ length) ⌝ }
     ensures { λ r. ⌜ r ≡ framed (payloadAt (leastPayloadOf number) at number length left rest) ⌝ }
 {
     let known = least_payload_of(number as u64);
@@ -223,8 +225,8 @@ fn header_at(file: &[u8], at: usize, rest: u64) -> Framed
     payload_at(at, file[at + 4], length, left, rest)
 }
 
-// What stands at the cursor: between messages (rest 0) the next section 0, else section 8 where just its size is
-// left, else a section with a header.
+// What stands at the cursor: between messages (rest 0) the next section 0, else section 8 where
+// just its size is left, else a section with a header.
 pub fn framed_at(file: &[u8], cursor: Cursor) -> Framed
     ensures { λ r. ⌜ r ≡ framed (readAt (now (file .entry)) (cursor .at .0) (cursor .rest)) ⌝ }
 {

@@ -1,4 +1,4 @@
--- The laws of the order of sections: what each answer says of the number and of what was read before it. Assumes nothing.
+-- The laws of the order of sections: what each answer says of the number and of what was read before it.
 use mathlib.Core.Bool.{Bool, true, false, not}
 use mathlib.Core.Path.{_≡_, refl, subst}
 use Prim.Native.Nat.{ℕ, _<_}

@@ -1,9 +1,21 @@
--- The order of a message's sections (01, "Order"). It knows section numbers only, no file. Assumes nothing.
+-- The order of a message's sections (01, "Order"). It knows section numbers only, no file.
 use Prim.Native.Nat.{ℕ, _+_}
 use mathlib.Core.Bool.{Bool, true, false, not}
 use mathlib.Core.List.{List, [], _∷_}
 use lib.Dec.{eqb}
 use Rattle.octets.specs.Choice.{pick}
+use Rattle.sections.specs.Kinds.{
+  indicator,
+  identification,
+  localUse,
+  gridDefinition,
+  prodDefinition,
+  reprDefinition,
+  bitMap,
+  dataSection,
+  endSection,
+}
+use Rattle.sections.specs.declared.kinds.Kind.{Kind}
 use Rattle.order.specs.declared.Order.{Order}
 use Rattle.order.specs.declared.Order.the-variants.{
   BetweenMessages,
@@ -22,6 +34,10 @@ use Rattle.order.specs.declared.Judged.the-variants.{Fits, Closes, Mispl
 use Rattle.order.specs.declared.Verdict.{Verdict}
 use Rattle.order.specs.declared.Verdict.the-variants as verdict
 
+-- a section of the kind has the number
+abbrev pub isOf : Kind → ℕ → Bool
+isOf k number = eqb number (k .number)
+
 -- where one number alone fits
 abbrev pub only : ℕ → ℕ → Order → Judged
 only number wanted then = pick (eqb number wanted) (Fits then) Misplaced
@@ -29,34 +45,34 @@ only number wanted then = pick (eqb number wanted) (Fits then) Misplaced
 -- after 1 comes 2 or 3; a 4 right after 1 is refusal 12
 abbrev pub afterIdentification : ℕ → Judged
 afterIdentification number =
-    pick (eqb number 2) (Fits AfterLocalUse)
-    (pick (eqb number 3) (Fits AfterGrid)
-    (pick (eqb number 4) NoGrid Misplaced))
+    pick (isOf localUse number) (Fits AfterLocalUse)
+    (pick (isOf gridDefinition number) (Fits AfterGrid)
+    (pick (isOf prodDefinition number) NoGrid Misplaced))
 
 -- a submessage that is not its message's first starts with 2, 3 or 4
 abbrev pub atSubmessageStart : ℕ → Judged
 atSubmessageStart number =
-    pick (eqb number 2) (Fits AfterLocalUse)
-    (pick (eqb number 3) (Fits AfterGrid)
-    (pick (eqb number 4) (Fits AfterProduct) Misplaced))
+    pick (isOf localUse number) (Fits AfterLocalUse)
+    (pick (isOf gridDefinition number) (Fits AfterGrid)
+    (pick (isOf prodDefinition number) (Fits AfterProduct) Misplaced))
 
--- from a message's start: 0, 1, then 2 or 3; after 2 comes 3; after 3: 4, 5, 6, 7; after 7 an 8 closes the message, and any
--- other section is judged as a submessage's start
+-- from a message's start: 0, 1, then 2 or 3; after 2 comes 3; after 3: 4, 5, 6, 7; after 7 an 8
+-- closes the message, and any other section is judged as a submessage's start
 unfoldable pub judged : Order → ℕ → Judged
-judged BetweenMessages number = only number 0 AfterIndicator
-judged AfterIndicator number = only number 1 AfterIdentification
+judged BetweenMessages number = only number (indicator .number) AfterIndicator
+judged AfterIndicator number = only number (identification .number) AfterIdentification
 judged AfterIdentification number = afterIdentification number
-judged AfterLocalUse number = only number 3 AfterGrid
-judged AfterGrid number = only number 4 AfterProduct
-judged AfterProduct number = only number 5 AfterRepresentation
-judged AfterRepresentation number = only number 6 AfterBitMap
-judged AfterBitMap number = only number 7 AfterData
-judged AfterData number = pick (eqb number 8) Closes (atSubmessageStart number)
+judged AfterLocalUse number = only number (gridDefinition .number) AfterGrid
+judged AfterGrid number = only number (prodDefinition .number) AfterProduct
+judged AfterProduct number = only number (reprDefinition .number) AfterRepresentation
+judged AfterRepresentation number = only number (bitMap .number) AfterBitMap
+judged AfterBitMap number = only number (dataSection .number) AfterData
+judged AfterData number = pick (isOf endSection number) Closes (atSubmessageStart number)
 judged SubmessageStart number = atSubmessageStart number
 
 -- after 7 any section but 8 first completes the submessage
 unfoldable pub completes : Order → ℕ → Bool
-completes AfterData number = not (eqb number 8)
+completes AfterData number = not (isOf endSection number)
 completes BetweenMessages number = false
 completes AfterIndicator number = false
 completes AfterIdentification number = false
@@ -87,10 +103,12 @@ followed Closes place later = later BetweenMessages
 followed Misplaced place later = verdict.Misplaced (record { 0 = place })
 followed NoGrid place later = verdict.NoGrid (record { 0 = place })
 
--- a list of numbers, from a place on: the first that can't come next, else whether the list ends between messages
+-- a list of numbers, from a place on: the first that can't come next, else whether the list ends
+-- between messages
 unfoldable pub orderFrom : Order → ℕ → List ℕ → Verdict
 orderFrom order place [] = pick (isBetween order) verdict.Clean verdict.InputOver
-orderFrom order place (number ∷ more) = followed (judged order number) place (λ next. orderFrom next (place + 1) more)
+orderFrom order place (number ∷ more) =
+    followed (judged order number) place (λ next. orderFrom next (place + 1) more)
 
 -- a whole list of numbers
 unfoldable pub orderOf : List ℕ → Verdict

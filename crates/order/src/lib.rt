@@ -1,7 +1,8 @@
-// Which section may come next (document 01, "Order"; the crate's parser.rs, the validator). It knows section
-// numbers only, no file.
+// Which section may come next (document 01, "Order"; the crate's parser.rs, the validator). It
+// knows section numbers only, no file.
 ghost use mathlib.Core.Path.{_≡_};
-ghost use Rattle.order.specs.Order.{only, afterIdentification, atSubmessageStart, judged, completes, isBetween, orderOf};
+ghost use Rattle.order.specs.Order.{only, afterIdentification, atSubmessageStart, judged};
+ghost use Rattle.order.specs.Order.{completes, isBetween, orderOf};
 use sections::BitMap;
 use sections::DataSection;
 use sections::EndSection;
@@ -12,7 +13,8 @@ use sections::LocalUse;
 use sections::ProdDefinition;
 use sections::ReprDefinition;
 
-// A section's place in the list of sections, counted from 0 over the whole file. Its octet offset is another quantity.
+// A section's place in the list of sections, counted from 0 over the whole file. Its octet offset
+// is another quantity.
 pub struct Place(pub u64);
 
 // What was read last.

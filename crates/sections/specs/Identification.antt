@@ -1,17 +1,21 @@
--- The fields of section 1, octets of the payload from 0 (01, "Fields"). Assumes nothing.
+-- The fields of section 1, octets of the payload from 0 (01, "Fields").
 use Prim.Native.Nat.{ℕ}
 use mathlib.Core.List.{List}
 use lib.Dec.{ltb}
 use lib.ListN.{length, getD}
 use Rattle.octets.specs.Choice.{pick}
 use Rattle.octets.specs.BigEndian.{beAt}
+use Rattle.sections.specs.Kinds.{identification, leastPayload}
 use Rattle.sections.specs.declared.identification.MaybeIdentification.{MaybeIdentification}
-use Rattle.sections.specs.declared.identification.MaybeIdentification.the-variants.{Fields, NoIdentification}
+use Rattle.sections.specs.declared.identification.MaybeIdentification.the-variants.{
+  Fields,
+  NoIdentification,
+}
 
 -- none under the least payload; the time is not checked
 unfoldable pub identificationOf : List ℕ → MaybeIdentification
 identificationOf s =
-    pick (ltb (length s) 16) NoIdentification
+    pick (ltb (length s) (leastPayload identification)) NoIdentification
     (Fields
     (record {
       centre = beAt s 0 2;

@@ -1,4 +1,5 @@
--- The nine section kinds (01, "Framing" and "Values octets and the public copy"; the Manual's names). Assumes nothing.
+-- The nine section kinds (01, "Framing" and "Values octets and the public copy"; the Manual's
+-- names). A size or a number of the format stands here, and other definitions cite it by its name.
 use Prim.Native.Nat.{ℕ}
 use mathlib.Core.List.{List, [], _∷_}
 use lib.Dec.{eqb}
@@ -12,6 +13,22 @@ use Rattle.sections.specs.declared.kinds.MaybeKind.{MaybeKind}
 use Rattle.sections.specs.declared.kinds.MaybeKind.the-variants.{Known, Unknown}
 use Rattle.sections.specs.declared.kinds.LeastPayload.{LeastPayload as LeastOf}
 use Rattle.sections.specs.declared.kinds.LeastPayload.the-variants.{Octets, NoHeader}
+
+-- the octets of a header: a length of four, and a number
+abbrev pub headerSize : ℕ
+headerSize = 5
+
+-- the edition that is read
+abbrev pub gribEdition : ℕ
+gribEdition = 2
+
+-- "GRIB", with which section 0 starts
+abbrev pub gribMark : List ℕ
+gribMark = 71 ∷ 82 ∷ 73 ∷ 66 ∷ []
+
+-- "7777", which is section 8
+abbrev pub endMark : List ℕ
+endMark = 55 ∷ 55 ∷ 55 ∷ 55 ∷ []
 
 -- a row: number, size, and the octet from which on a section carries values, counted from 1
 abbrev pub kind : ℕ → Extent → Values → Kind
@@ -56,7 +73,26 @@ endSection = kind 8 (WholeSize 4) Nowhere
 -- all of them
 unfoldable pub kinds : List Kind
 kinds =
-    indicator ∷ identification ∷ localUse ∷ gridDefinition ∷ prodDefinition ∷ reprDefinition ∷ bitMap ∷ dataSection ∷ endSection ∷ []
+    indicator ∷ identification ∷ localUse ∷ gridDefinition ∷ prodDefinition ∷ reprDefinition
+    ∷ bitMap ∷ dataSection ∷ endSection ∷ []
+
+-- the whole size, where there is no header
+abbrev pub octetsWhole : Extent → ℕ
+octetsWhole (WholeSize octets) = octets
+octetsWhole (LeastPayload octets) = 0
+
+-- the least payload, where there is one
+abbrev pub octetsLeast : Extent → ℕ
+octetsLeast (WholeSize octets) = 0
+octetsLeast (LeastPayload octets) = octets
+
+-- a row's size: of a kind without header the whole ..
+abbrev pub wholeSize : Kind → ℕ
+wholeSize k = octetsWhole (k .extent)
+
+-- .. and of one with a header the least payload
+abbrev pub leastPayload : Kind → ℕ
+leastPayload k = octetsLeast (k .extent)
 
 -- the kind of a list that has the number
 abbrev pub kindAmong : ℕ → List Kind → MaybeKind

@@ -1,13 +1,19 @@
--- The fields of section 4, octets of the payload from 0 (01, "Fields"). Assumes nothing.
+-- The fields of section 4, octets of the payload from 0 (01, "Fields").
 use Prim.Native.Nat.{ℕ}
 use mathlib.Core.List.{List}
 use lib.Dec.{ltb}
 use lib.ListN.{length}
 use Rattle.octets.specs.Choice.{pick}
 use Rattle.octets.specs.BigEndian.{beAt}
+use Rattle.sections.specs.Kinds.{prodDefinition, leastPayload}
 use Rattle.sections.specs.declared.prod_definition.MaybeProdDefinition.{MaybeProdDefinition}
-use Rattle.sections.specs.declared.prod_definition.MaybeProdDefinition.the-variants.{Fields, NoProdDefinition}
+use Rattle.sections.specs.declared.prod_definition.MaybeProdDefinition.the-variants.{
+  Fields,
+  NoProdDefinition,
+}
 
 -- none under the least payload
 unfoldable pub prodDefinitionOf : List ℕ → MaybeProdDefinition
-prodDefinitionOf s = pick (ltb (length s) 4) NoProdDefinition (Fields (record { coordinates = beAt s 0 2; template = beAt s 2 2 }))
+prodDefinitionOf s =
+    pick (ltb (length s) (leastPayload prodDefinition)) NoProdDefinition
+    (Fields (record { coordinates = beAt s 0 2; template = beAt s 2 2 }))

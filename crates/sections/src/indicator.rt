@@ -24,6 +24,9 @@ impl Indicator {
 
     pub const WHOLE_SIZE: usize = 16;
 
+    // The edition that is read.
+    pub const EDITION: u8 = 2;
+
     pub fn kind() -> Kind
         ensures { λ r. ⌜ r ≡ indicator ⌝ }
     {
@@ -34,7 +37,8 @@ impl Indicator {
         }
     }
 
-    // The fields of a section's own octets. Neither "GRIB" nor the edition is tested: framing does that.
+    // The fields of a section's own octets. Neither "GRIB" nor the edition is tested: framing does
+    // that.
     pub fn from_section(section: &[u8]) -> MaybeIndicator
         ensures { λ r. ⌜ r ≡ indicatorOf (now (section .entry)) ⌝ }
     {

@@ -1,4 +1,5 @@
-// Section 4, the product definition section. What its template says is asked of the crate `products`.
+// Section 4, the product definition section. What its template says is asked of the crate
+// `products`.
 ghost use mathlib.Core.Path.{_≡_};
 ghost use Rattle.sections.specs.Kinds.{prodDefinition};
 ghost use Rattle.sections.specs.ProdDefinition.{prodDefinitionOf};

@@ -1,4 +1,4 @@
--- `after_data` meets its contract: an 8 closes, and any other number is a submessage's start. Assumes nothing.
+-- `after_data` meets its contract: an 8 closes, and any other number is a submessage's start.
 use mathlib.Core.Path.{_∙_}
 use borrow.Author.Needs.{needs}
 use borrow.Author.Tests.{ne-eqb}

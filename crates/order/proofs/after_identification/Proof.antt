@@ -1,4 +1,4 @@
--- `after_identification` meets its contract: each key decides the picks, and so does being none of the keys. Assumes nothing.
+-- `after_identification` meets its contract: each key decides the picks, and so does being none of the keys.
 use borrow.Author.Tests.{ne-eqb}
 use Rattle.order.proofs.after_identification.Statement.{statement}
 use Rattle.order.proofs.after_identification.Tie as tie

@@ -1,4 +1,4 @@
--- `at_submessage_start` meets its contract: each key decides the picks, and so does being none of the keys. Assumes nothing.
+-- `at_submessage_start` meets its contract: each key decides the picks, and so does being none of the keys.
 use borrow.Author.Tests.{ne-eqb}
 use Rattle.order.proofs.at_submessage_start.Statement.{statement}
 use Rattle.order.proofs.at_submessage_start.Tie as tie

@@ -1,4 +1,4 @@
--- `between_messages` meets its contract: every order but the first is inside a message. Assumes nothing.
+-- `between_messages` meets its contract: every order but the first is inside a message.
 use mathlib.Core.Bool.{false}
 use mathlib.Core.List.{List, [], _∷_}
 use mathlib.Core.Path.{_≡_, refl}

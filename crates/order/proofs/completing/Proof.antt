@@ -1,4 +1,4 @@
--- `completing` meets its contract: after 7 the test decides, and elsewhere nothing is complete. Assumes nothing.
+-- `completing` meets its contract: after 7 the test decides, and elsewhere nothing is complete.
 use mathlib.Core.Bool.{false}
 use mathlib.Core.List.{List, [], _∷_}
 use mathlib.Core.Path.{_≡_, refl}

@@ -1,4 +1,4 @@
--- `judge` meets its contract: in each arm the order is the arm's, and its answer is what the callee ensures. Assumes nothing.
+-- `judge` meets its contract: in each arm the order is the arm's, and its answer is what the callee ensures.
 use mathlib.Core.Path.{_∙_}
 use borrow.Author.Needs.{needs}
 use Rattle.order.specs.Order.{judged}

@@ -1,4 +1,4 @@
--- `judge_all` meets its contract. The loop keeps `Kept`: what is left, judged, is the whole list judged. Assumes nothing.
+-- `judge_all` meets its contract. The loop keeps `Kept`: what is left, judged, is the whole list judged.
 use mathlib.Core.Path.{_≡_, refl, sym, _∙_}
 use mathlib.Core.List.{List, [], _∷_}
 use mathlib.Core.Logic.{⊎-elim}

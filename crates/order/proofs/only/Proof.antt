@@ -1,4 +1,4 @@
--- `only` meets its contract: the test of the number decides the pick. Assumes nothing.
+-- `only` meets its contract: the test of the number decides the pick.
 use borrow.Author.Tests.{eq-eqb, ne-eqb}
 use Rattle.order.proofs.only.Statement.{statement}
 use Rattle.order.proofs.only.Tie as tie

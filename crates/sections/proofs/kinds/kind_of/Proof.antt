@@ -1,4 +1,4 @@
--- `kind_of` meets its contract: in each arm the number is known, and in the last it is no kind's. Assumes nothing.
+-- `kind_of` meets its contract: in each arm the number is known, and in the last it is no kind's.
 use borrow.Author.Tests.{ne-eqb}
 use Rattle.sections.specs.Kinds.{kinds, kindOf}
 use borrow.Author.Needs.{needs}

@@ -1,4 +1,4 @@
--- `least_payload_of` meets its contract, by the cases of the kind and of its size. Assumes nothing.
+-- `least_payload_of` meets its contract, by the cases of the kind and of its size.
 use mathlib.Core.Path.{_≡_, sym, _∙_}
 use Rattle.sections.specs.Kinds.{leastPayloadOf}
 use borrow.Author.Needs.{needs}

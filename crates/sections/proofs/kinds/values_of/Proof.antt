@@ -1,4 +1,4 @@
--- `values_of` meets its contract, by the cases of the kind. Assumes nothing.
+-- `values_of` meets its contract, by the cases of the kind.
 use mathlib.Core.Path.{_≡_, sym, _∙_}
 use Rattle.sections.specs.Kinds.{valuesOf}
 use borrow.Author.Needs.{needs}

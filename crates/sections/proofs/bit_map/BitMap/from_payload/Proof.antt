@@ -1,4 +1,4 @@
--- `BitMap::from_payload` meets its contract: a payload is under the least or not. Assumes nothing.
+-- `BitMap::from_payload` meets its contract: a payload is under the least or not.
 use borrow.Author.Tests.{lt-ltb, le-ltb}
 use Rattle.sections.specs.BitMap.{bitMapOf}
 use borrow.Author.Needs.{needs}

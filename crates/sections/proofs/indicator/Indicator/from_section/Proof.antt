@@ -1,4 +1,4 @@
--- `Indicator::from_section` meets its contract: the octets are too few or not. Assumes nothing.
+-- `Indicator::from_section` meets its contract: the octets are too few or not.
 use borrow.Author.Tests.{lt-ltb, le-ltb}
 use Rattle.octets.specs.BigEndian.{beAt}
 use Rattle.sections.specs.Indicator.{indicatorOf}

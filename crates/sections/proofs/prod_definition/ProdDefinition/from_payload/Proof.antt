@@ -1,4 +1,4 @@
--- `ProdDefinition::from_payload` meets its contract: a payload is under the least or not. Assumes nothing.
+-- `ProdDefinition::from_payload` meets its contract: a payload is under the least or not.
 use borrow.Author.Tests.{lt-ltb, le-ltb}
 use Rattle.octets.specs.BigEndian.{beAt}
 use Rattle.sections.specs.ProdDefinition.{prodDefinitionOf}
