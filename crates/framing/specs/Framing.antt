@@ -10,14 +10,15 @@ use Rattle.octets.specs.Choice.{pick}
 use Rattle.octets.specs.BigEndian.{beAt}
 use Rattle.sections.specs.Kinds.{
   headerSize,
+  indicatorSize,
+  endSize,
+  leastBitMap,
   gribEdition,
   endMark,
   indicator,
   bitMap,
   dataSection,
   endSection,
-  wholeSize,
-  leastPayload,
   leastPayloadOf,
 }
 use Rattle.sections.specs.declared.kinds.LeastPayload.{LeastPayload}
@@ -58,26 +59,23 @@ unfoldable pub indicatorAt : List ℕ → ℕ → Read
 indicatorAt file g =
     let edition = getD file (g + 7) 0 in
     let total = beAt file (g + 8) 8 in
-    let size = wholeSize indicator in
     pick (not (eqb edition gribEdition)) (refused (OtherEdition edition) g)
-    (pick (ltb total size) (refused TotalUnder16 g)
-    (section (indicator .number) g size (total - size)))
+    (pick (ltb total indicatorSize) (refused TotalUnder16 g)
+    (section (indicator .number) g indicatorSize (total - indicatorSize)))
 
 -- section 8, with an octet left at least: 2, then 5
 unfoldable pub endAt : List ℕ → ℕ → Read
 endAt file at =
-    let size = wholeSize endSection in
-    pick (ltb (length file - at) size) (refused Cut at)
-    (pick (saysMark file at endMark) (section (endSection .number) at size 0)
+    pick (ltb (length file - at) endSize) (refused Cut at)
+    (pick (saysMark file at endMark) (section (endSection .number) at endSize 0)
     (refused NotEndMark at))
 
 -- the file ends inside the payload: section 7 is skipped unread, and of a section 6 the indicator
 -- is read whatever its length
 unfoldable pub isCut : ℕ → ℕ → ℕ → Bool
 isCut number len left =
-    let shortest = headerSize + leastPayload bitMap in
     not (eqb number (dataSection .number))
-    && (ltb left len || (eqb number (bitMap .number) && ltb left shortest))
+    && (ltb left len || (eqb number (bitMap .number) && ltb left (headerSize + leastBitMap)))
 
 -- a section behind its header, of a kind with this least payload: 7, 2 (payload), 8, 9
 unfoldable pub payloadAt : LeastPayload → ℕ → ℕ → ℕ → ℕ → ℕ → Read
@@ -108,7 +106,7 @@ unfoldable pub readAt : List ℕ → ℕ → ℕ → Read
 readAt file at rest =
     pick (eqb rest 0) (messageAt file (nextStart file at))
     (pick (leb (length file) at) Over
-    (pick (eqb rest (wholeSize endSection)) (endAt file at)
+    (pick (eqb rest endSize) (endAt file at)
     (headerAt file at rest)))
 
 -- a read, with each field set: where there is no section, its fields say nothing, but for the

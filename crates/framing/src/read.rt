@@ -2,7 +2,7 @@
 ghost use mathlib.Core.Path.{_≡_};
 ghost use Prim.Native.Nat.{_+_, _^_, _<_, _≤_};
 ghost use lib.ListN.{length};
-ghost use Rattle.sections.specs.Kinds.{indicator, headerSize, wholeSize, leastPayloadOf};
+ghost use Rattle.sections.specs.Kinds.{headerSize, indicatorSize, leastPayloadOf};
 ghost use Rattle.framing.specs.Read.{Over};
 ghost use Rattle.framing.specs.Framing.{section, refused, without, framed, readAt};
 ghost use Rattle.framing.specs.Framing.{indicatorAt, endAt, headerAt, payloadAt, isCut};
@@ -127,7 +127,7 @@ fn other_edition(edition: u8) -> Fault
 
 // Section 0, from its G on.
 fn indicator_at(file: &[u8], g: usize) -> Framed
-    requires { ⌜ g + wholeSize indicator ≤ length (now file) ⌝ }
+    requires { ⌜ g + indicatorSize ≤ length (now file) ⌝ }
     ensures { λ r. ⌜ r ≡ framed (indicatorAt (now (file .entry)) g) ⌝ }
 {
     let edition = file[g + 7];

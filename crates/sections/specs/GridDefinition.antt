@@ -5,7 +5,7 @@ use lib.Dec.{ltb}
 use lib.ListN.{length}
 use Rattle.octets.specs.Choice.{pick}
 use Rattle.octets.specs.BigEndian.{beAt}
-use Rattle.sections.specs.Kinds.{gridDefinition, leastPayload}
+use Rattle.sections.specs.Kinds.{leastGrid}
 use Rattle.sections.specs.declared.grid_definition.MaybeGridDefinition.{MaybeGridDefinition}
 use Rattle.sections.specs.declared.grid_definition.MaybeGridDefinition.the-variants.{
   Fields,
@@ -15,5 +15,5 @@ use Rattle.sections.specs.declared.grid_definition.MaybeGridDefinition.t
 -- none under the least payload
 unfoldable pub gridDefinitionOf : List ℕ → MaybeGridDefinition
 gridDefinitionOf s =
-    pick (ltb (length s) (leastPayload gridDefinition)) NoGridDefinition
+    pick (ltb (length s) leastGrid) NoGridDefinition
     (Fields (record { points = beAt s 1 4; template = beAt s 7 2 }))

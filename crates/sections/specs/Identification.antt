@@ -5,7 +5,7 @@ use lib.Dec.{ltb}
 use lib.ListN.{length, getD}
 use Rattle.octets.specs.Choice.{pick}
 use Rattle.octets.specs.BigEndian.{beAt}
-use Rattle.sections.specs.Kinds.{identification, leastPayload}
+use Rattle.sections.specs.Kinds.{leastIdentification}
 use Rattle.sections.specs.declared.identification.MaybeIdentification.{MaybeIdentification}
 use Rattle.sections.specs.declared.identification.MaybeIdentification.the-variants.{
   Fields,
@@ -15,7 +15,7 @@ use Rattle.sections.specs.declared.identification.MaybeIdentification.th
 -- none under the least payload; the time is not checked
 unfoldable pub identificationOf : List ℕ → MaybeIdentification
 identificationOf s =
-    pick (ltb (length s) (leastPayload identification)) NoIdentification
+    pick (ltb (length s) leastIdentification) NoIdentification
     (Fields
     (record {
       centre = beAt s 0 2;

@@ -18,6 +18,30 @@ use Rattle.sections.specs.declared.kinds.LeastPayload.the-variants.{Octe
 abbrev pub headerSize : ℕ
 headerSize = 5
 
+-- the octets of a section 0, which has no header
+abbrev pub indicatorSize : ℕ
+indicatorSize = 16
+
+-- and of a section 8
+abbrev pub endSize : ℕ
+endSize = 4
+
+-- the least payload of each kind of which fields are decoded
+abbrev pub leastIdentification : ℕ
+leastIdentification = 16
+
+abbrev pub leastGrid : ℕ
+leastGrid = 9
+
+abbrev pub leastProduct : ℕ
+leastProduct = 4
+
+abbrev pub leastRepresentation : ℕ
+leastRepresentation = 6
+
+abbrev pub leastBitMap : ℕ
+leastBitMap = 1
+
 -- the edition that is read
 abbrev pub gribEdition : ℕ
 gribEdition = 2
@@ -34,13 +58,13 @@ endMark = 55 ∷ 55 ∷ 55 ∷ 55 ∷ []
 abbrev pub kind : ℕ → Extent → Values → Kind
 kind number extent values = record { number = number; extent = extent; values = values }
 
--- 0, the indicator section: no header, 16 octets
+-- 0, the indicator section: no header
 abbrev pub indicator : Kind
-indicator = kind 0 (WholeSize 16) Nowhere
+indicator = kind 0 (WholeSize indicatorSize) Nowhere
 
 -- 1, the identification section
 abbrev pub identification : Kind
-identification = kind 1 (LeastPayload 16) Nowhere
+identification = kind 1 (LeastPayload leastIdentification) Nowhere
 
 -- 2, the local use section
 abbrev pub localUse : Kind
@@ -48,51 +72,33 @@ localUse = kind 2 (LeastPayload 0) (FromOctet 6)
 
 -- 3, the grid definition section
 abbrev pub gridDefinition : Kind
-gridDefinition = kind 3 (LeastPayload 9) Nowhere
+gridDefinition = kind 3 (LeastPayload leastGrid) Nowhere
 
 -- 4, the product definition section
 abbrev pub prodDefinition : Kind
-prodDefinition = kind 4 (LeastPayload 4) Nowhere
+prodDefinition = kind 4 (LeastPayload leastProduct) Nowhere
 
 -- 5, the data representation section: its first 11 octets are no values
 abbrev pub reprDefinition : Kind
-reprDefinition = kind 5 (LeastPayload 6) (FromOctet 12)
+reprDefinition = kind 5 (LeastPayload leastRepresentation) (FromOctet 12)
 
 -- 6, the bit-map section: its first 6 octets are no values
 abbrev pub bitMap : Kind
-bitMap = kind 6 (LeastPayload 1) (FromOctet 7)
+bitMap = kind 6 (LeastPayload leastBitMap) (FromOctet 7)
 
 -- 7, the data section
 abbrev pub dataSection : Kind
 dataSection = kind 7 (LeastPayload 0) (FromOctet 6)
 
--- 8, the end section: no header, 4 octets
+-- 8, the end section: no header
 abbrev pub endSection : Kind
-endSection = kind 8 (WholeSize 4) Nowhere
+endSection = kind 8 (WholeSize endSize) Nowhere
 
 -- all of them
 unfoldable pub kinds : List Kind
 kinds =
     indicator ∷ identification ∷ localUse ∷ gridDefinition ∷ prodDefinition ∷ reprDefinition
     ∷ bitMap ∷ dataSection ∷ endSection ∷ []
-
--- the whole size, where there is no header
-abbrev pub octetsWhole : Extent → ℕ
-octetsWhole (WholeSize octets) = octets
-octetsWhole (LeastPayload octets) = 0
-
--- the least payload, where there is one
-abbrev pub octetsLeast : Extent → ℕ
-octetsLeast (WholeSize octets) = 0
-octetsLeast (LeastPayload octets) = octets
-
--- a row's size: of a kind without header the whole ..
-abbrev pub wholeSize : Kind → ℕ
-wholeSize k = octetsWhole (k .extent)
-
--- .. and of one with a header the least payload
-abbrev pub leastPayload : Kind → ℕ
-leastPayload k = octetsLeast (k .extent)
 
 -- the kind of a list that has the number
 abbrev pub kindAmong : ℕ → List Kind → MaybeKind

@@ -5,7 +5,7 @@ use lib.Dec.{ltb}
 use lib.ListN.{length}
 use Rattle.octets.specs.Choice.{pick}
 use Rattle.octets.specs.BigEndian.{beAt}
-use Rattle.sections.specs.Kinds.{prodDefinition, leastPayload}
+use Rattle.sections.specs.Kinds.{leastProduct}
 use Rattle.sections.specs.declared.prod_definition.MaybeProdDefinition.{MaybeProdDefinition}
 use Rattle.sections.specs.declared.prod_definition.MaybeProdDefinition.the-variants.{
   Fields,
@@ -15,5 +15,5 @@ use Rattle.sections.specs.declared.prod_definition.MaybeProdDefinition.t
 -- none under the least payload
 unfoldable pub prodDefinitionOf : List ℕ → MaybeProdDefinition
 prodDefinitionOf s =
-    pick (ltb (length s) (leastPayload prodDefinition)) NoProdDefinition
+    pick (ltb (length s) leastProduct) NoProdDefinition
     (Fields (record { coordinates = beAt s 0 2; template = beAt s 2 2 }))

@@ -5,7 +5,7 @@ use lib.Dec.{ltb}
 use lib.ListN.{length}
 use Rattle.octets.specs.Choice.{pick}
 use Rattle.octets.specs.BigEndian.{beAt}
-use Rattle.sections.specs.Kinds.{reprDefinition, leastPayload}
+use Rattle.sections.specs.Kinds.{leastRepresentation}
 use Rattle.sections.specs.declared.repr_definition.MaybeReprDefinition.{MaybeReprDefinition}
 use Rattle.sections.specs.declared.repr_definition.MaybeReprDefinition.the-variants.{
   Fields,
@@ -15,5 +15,5 @@ use Rattle.sections.specs.declared.repr_definition.MaybeReprDefinition.t
 -- none under the least payload
 unfoldable pub reprDefinitionOf : List ℕ → MaybeReprDefinition
 reprDefinitionOf s =
-    pick (ltb (length s) (leastPayload reprDefinition)) NoReprDefinition
+    pick (ltb (length s) leastRepresentation) NoReprDefinition
     (Fields (record { points = beAt s 0 4; template = beAt s 4 2 }))
