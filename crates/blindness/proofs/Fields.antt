@@ -1,4 +1,4 @@
--- What is decoded of a section of two files, and where its message lies: the decoders look at no values octet. Assumes nothing.
+-- What is decoded of a section of two files, and where its message lies: the decoders look at no values octet.
 use Prim.Native.Nat.{ℕ, _+_, _-_, _≤_, _<_}
 use native.Mathlib.Omega.{arith}
 use mathlib.Core.Path.{_≡_, refl, sym, ap, _∙_}
@@ -19,13 +19,13 @@ use Rattle.publish.specs.Values.{Terms, inStretch, inSpan, inMessage}
 use Rattle.blindness.specs.Agree.{
   octetsOf,
   payloadOf,
-  productOf,
+  productSectionOf,
   fieldsOf,
   decoded,
   indicator,
   identification,
   gridDefinition,
-  product,
+  productSection,
   reprDefinition,
   bitMap,
 }
@@ -66,8 +66,8 @@ module _ (s t : List ℕ) (same : length s ≡ length t) where
   bit-map-same h = rw (same, h 0 (omega arith) (omega arith))
 
   -- a section 4 is equal as a whole
-  product-same : ((i : ℕ) → getD s i 0 ≡ getD t i 0) → productOf s ≡ productOf t
-  product-same h = ap productOf (ext-getD 0 s t same (λ i _. h i))
+  product-same : ((i : ℕ) → getD s i 0 ≡ getD t i 0) → productSectionOf s ≡ productSectionOf t
+  product-same h = ap productSectionOf (ext-getD 0 s t same (λ i _. h i))
 
 module _ (terms : Terms) (spared : Spared terms) (f g : List ℕ) (same : length f ≡ length g) where
   module _ (s : Section) (seen : Seen terms f g s) where
@@ -122,7 +122,7 @@ module _ (terms : Terms) (spared : Spared terms) (f g : List ℕ) (same : length
         (payload-still 3 7 10 (eqb-true n 3 e) (spared .grid-points) 1 5 (omega arith) (omega arith))
         (payload-still 3 13 14 (eqb-true n 3 e) (spared .grid-template) 7 9 (omega arith) (omega arith)))) λ _.
         same-pick (eqb n 4)
-        (λ e. ap product (product-same p q payload-length
+        (λ e. ap productSection (product-same p q payload-length
         (λ i. payload-same i (rw (eqb-true n 4 e) (spared .product (5 + i) (omega arith)))))) λ _.
         same-pick (eqb n 5)
         (λ e. ap reprDefinition (representation-same p q payload-length

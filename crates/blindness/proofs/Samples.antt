@@ -1,4 +1,4 @@
--- The samples: walks and copies by computation, and a computed test that two files are alike. Assumes nothing.
+-- The samples: walks and copies by computation, and a computed test that two files are alike.
 use Prim.Native.Nat.{ℕ, zero, suc, _+_}
 use native.Mathlib.Nat.{add-zero, zero-add}
 use native.Mathlib.Omega.{arith}
@@ -36,7 +36,7 @@ use Rattle.blindness.specs.Agree.{
   indicator,
   identification,
   gridDefinition,
-  product,
+  productSection,
   reprDefinition,
   bitMap,
   none,
@@ -102,7 +102,7 @@ numberIn (bitMap b) = indicatorIn b
 numberIn (indicator i) = 0
 numberIn (identification i) = 0
 numberIn (gridDefinition g) = 0
-numberIn (product p) = 0
+numberIn (productSection p) = 0
 numberIn none = 0
 
 -- 0 of a clean end

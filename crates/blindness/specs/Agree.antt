@@ -1,5 +1,5 @@
 -- What is decoded of a file's sections, and when two files differ in values octets only (01, "Fields", "Values octets and the public
--- copy"). Assumes nothing.
+-- copy").
 use Prim.Native.Nat.{ℕ, _<_}
 use mathlib.Core.Bool.{false}
 use mathlib.Core.List.{List, [], _∷_}
@@ -19,10 +19,8 @@ use Rattle.sections.specs.declared.grid_definition.MaybeGridDefinition.{MaybeGr
 use Rattle.sections.specs.declared.prod_definition.MaybeProdDefinition.{MaybeProdDefinition}
 use Rattle.sections.specs.declared.repr_definition.MaybeReprDefinition.{MaybeReprDefinition}
 use Rattle.sections.specs.declared.bit_map.MaybeBitMap.{MaybeBitMap}
-use Rattle.products.specs.Products.{categoryOf, numberOf, processOf, forecastOf, fixedOf}
-use Rattle.products.specs.declared.MaybeOctet.{MaybeOctet}
-use Rattle.products.specs.declared.MaybeTime.{MaybeTime}
-use Rattle.products.specs.declared.MaybeSurfaces.{MaybeSurfaces}
+use Rattle.products.specs.Products.{productOf}
+use Rattle.products.specs.declared.Product.{Product}
 use Rattle.framing.specs.declared.read.Section.{Section}
 use Rattle.index.specs.Bounds.{unlimited}
 use Rattle.index.specs.Walk.{walked}
@@ -39,31 +37,19 @@ unfoldable pub payloadOf : List ℕ → Section → List ℕ
 payloadOf file s = drop 5 (octetsOf file s)
 
 -- what a section 4 says: its own fields and the product fields
-pub record Product : Type 0 where
+pub record ProductSection : Type 0 where
   pub definition : MaybeProdDefinition
-  pub category : MaybeOctet
-  pub number : MaybeOctet
-  pub process : MaybeOctet
-  pub forecast : MaybeTime
-  pub fixed : MaybeSurfaces
+  pub product : Product
 
-unfoldable pub productOf : List ℕ → Product
-productOf s =
-    record {
-      definition = prodDefinitionOf s;
-      category = categoryOf s;
-      number = numberOf s;
-      process = processOf s;
-      forecast = forecastOf s;
-      fixed = fixedOf s;
-    }
+unfoldable pub productSectionOf : List ℕ → ProductSection
+productSectionOf s = record { definition = prodDefinitionOf s; product = productOf s }
 
 -- the decoded fields of a section; sections 2, 7 and 8 have none
 pub data Fields : Type 0 where
   indicator : MaybeIndicator → Fields
   identification : MaybeIdentification → Fields
   gridDefinition : MaybeGridDefinition → Fields
-  product : Product → Fields
+  productSection : ProductSection → Fields
   reprDefinition : MaybeReprDefinition → Fields
   bitMap : MaybeBitMap → Fields
   none : Fields
@@ -74,7 +60,7 @@ fieldsOf file s =
     pick (eqb (s .number) 0) (indicator (indicatorOf (octetsOf file s)))
     (pick (eqb (s .number) 1) (identification (identificationOf (payloadOf file s)))
     (pick (eqb (s .number) 3) (gridDefinition (gridDefinitionOf (payloadOf file s)))
-    (pick (eqb (s .number) 4) (product (productOf (payloadOf file s)))
+    (pick (eqb (s .number) 4) (productSection (productSectionOf (payloadOf file s)))
     (pick (eqb (s .number) 5) (reprDefinition (reprDefinitionOf (payloadOf file s)))
     (pick (eqb (s .number) 6) (bitMap (bitMapOf (payloadOf file s)))
     none)))))

@@ -1,5 +1,6 @@
--- The decoded fields of sections 0, 1, 3, 5 and 6 as numbers (01, "Fields"). A section has its fields, and `known` is 1, or it has none,
--- and `known` is 0: the other numbers are then 0 and say nothing. Assumes nothing.
+-- The decoded fields of sections 0, 1, 3, 5 and 6 as numbers (01, "Fields"). A section has its
+-- fields, and `known` is 1, or it has none, and `known` is 0: the other numbers are then 0 and say
+-- nothing.
 use Rattle.sections.specs.declared.indicator.MaybeIndicator.{MaybeIndicator}
 use Rattle.sections.specs.declared.indicator.MaybeIndicator.the-variants as indicator
 use Rattle.sections.specs.declared.identification.MaybeIdentification.{MaybeIdentification}
@@ -7,7 +8,8 @@ use Rattle.sections.specs.declared.identification.MaybeIdentification.the-varia
 use Rattle.sections.specs.declared.grid_definition.MaybeGridDefinition.{MaybeGridDefinition}
 use Rattle.sections.specs.declared.grid_definition.MaybeGridDefinition.the-variants as grid
 use Rattle.sections.specs.declared.repr_definition.MaybeReprDefinition.{MaybeReprDefinition}
-use Rattle.sections.specs.declared.repr_definition.MaybeReprDefinition.the-variants as representation
+use Rattle.sections.specs.declared.repr_definition.MaybeReprDefinition.the-variants
+    as representation
 use Rattle.sections.specs.declared.bit_map.MaybeBitMap.{MaybeBitMap}
 use Rattle.sections.specs.declared.bit_map.MaybeBitMap.the-variants as bitmap
 use Rattle.buttresk.specs.declared.fields.IndicatorFields.{IndicatorFields}
@@ -18,7 +20,8 @@ use Rattle.buttresk.specs.declared.fields.BitMapFields.{BitMapFields}
 
 -- section 0: discipline and total length
 unfoldable pub indicatorFields : MaybeIndicator → IndicatorFields
-indicatorFields (indicator.Fields f) = record { known = 1; discipline = f .discipline; total = f .total }
+indicatorFields (indicator.Fields f) =
+    record { known = 1; discipline = f .discipline; total = f .total }
 indicatorFields indicator.NoIndicator = record { known = 0; discipline = 0; total = 0 }
 
 -- section 1 without fields
@@ -69,8 +72,10 @@ gridFields grid.NoGridDefinition = record { known = 0; template = 0; points = 0 
 
 -- section 5: points and template
 unfoldable pub representationFields : MaybeReprDefinition → RepresentationFields
-representationFields (representation.Fields f) = record { known = 1; template = f .template; points = f .points }
-representationFields representation.NoReprDefinition = record { known = 0; template = 0; points = 0 }
+representationFields (representation.Fields f) =
+    record { known = 1; template = f .template; points = f .points }
+representationFields representation.NoReprDefinition =
+    record { known = 0; template = 0; points = 0 }
 
 -- section 6: indicator
 unfoldable pub bitMapFields : MaybeBitMap → BitMapFields

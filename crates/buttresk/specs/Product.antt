@@ -1,12 +1,15 @@
--- The decoded fields of section 4 as numbers (01, "Fields": "Product fields"). A `known` of 1 or 0 stands beside every value that can be
--- none; where it is 0 the value is 0 and says nothing. Assumes nothing.
+-- The decoded fields of section 4 as numbers (01, "Fields": "Product fields"). A `known` of 1 or 0
+-- stands beside every value that can be none; where it is 0 the value is 0 and says nothing.
 use Prim.Native.Nat.{ℕ}
 use mathlib.Core.List.{List}
 use lib.IntN.{pos}
 use Rattle.sections.specs.ProdDefinition.{prodDefinitionOf}
 use Rattle.sections.specs.declared.prod_definition.MaybeProdDefinition.{MaybeProdDefinition}
-use Rattle.sections.specs.declared.prod_definition.MaybeProdDefinition.the-variants.{Fields, NoProdDefinition}
-use Rattle.products.specs.Products.{categoryOf, numberOf, processOf, forecastOf, fixedOf}
+use Rattle.sections.specs.declared.prod_definition.MaybeProdDefinition.the-variants.{
+  Fields,
+  NoProdDefinition,
+}
+use Rattle.products.specs.Products.{productOf}
 use Rattle.products.specs.declared.FixedSurface.{FixedSurface}
 use Rattle.products.specs.declared.MaybeOctet.{MaybeOctet}
 use Rattle.products.specs.declared.MaybeOctet.the-variants.{Octet, NoOctet}
@@ -23,7 +26,8 @@ use Rattle.buttresk.specs.declared.product.ProductFields.{ProductFields}
 
 -- coordinates and template: none under the least payload
 unfoldable pub definitionFields : MaybeProdDefinition → DefinitionFields
-definitionFields (Fields f) = record { known = 1; coordinates = f .coordinates; template = f .template }
+definitionFields (Fields f) =
+    record { known = 1; coordinates = f .coordinates; template = f .template }
 definitionFields NoProdDefinition = record { known = 0; coordinates = 0; template = 0 }
 
 -- category, number, generating process
@@ -45,20 +49,22 @@ noSurface = record { surface = 0; factor = pos 0; value = pos 0 }
 
 -- both surfaces or none
 unfoldable pub surfacesField : MaybeSurfaces → SurfacesField
-surfacesField (Both first second) = record { known = 1; first = surfaceNumbers first; second = surfaceNumbers second }
+surfacesField (Both first second) =
+    record { known = 1; first = surfaceNumbers first; second = surfaceNumbers second }
 surfacesField NoSurfaces = record { known = 0; first = noSurface; second = noSurface }
 
 -- section 4
 unfoldable pub productFields : List ℕ → ProductFields
 productFields s =
     let definition = definitionFields (prodDefinitionOf s) in
+    let product = productOf s in
     record {
       known = definition .known;
       coordinates = definition .coordinates;
       template = definition .template;
-      category = octetField (categoryOf s);
-      number = octetField (numberOf s);
-      process = octetField (processOf s);
-      time = timeField (forecastOf s);
-      surfaces = surfacesField (fixedOf s);
+      category = octetField (product .category);
+      number = octetField (product .number);
+      process = octetField (product .process);
+      time = timeField (product .time);
+      surfaces = surfacesField (product .surfaces);
     }

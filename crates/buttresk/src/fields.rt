@@ -1,11 +1,13 @@
-// The decoded fields of sections 0, 1, 3, 5 and 6. `known` is 1, or 0 where there are no fields: the other numbers then say nothing.
+// The decoded fields of sections 0, 1, 3, 5 and 6. `known` is 1, or 0 where there are no fields:
+// the other numbers then say nothing.
 ghost use mathlib.Core.Path.{_≡_};
 ghost use Rattle.sections.specs.Indicator.{indicatorOf};
 ghost use Rattle.sections.specs.Identification.{identificationOf};
 ghost use Rattle.sections.specs.GridDefinition.{gridDefinitionOf};
 ghost use Rattle.sections.specs.ReprDefinition.{reprDefinitionOf};
 ghost use Rattle.sections.specs.BitMap.{bitMapOf};
-ghost use Rattle.buttresk.specs.Fields.{indicatorFields, identificationFields, gridFields, representationFields, bitMapFields, noIdentification};
+ghost use Rattle.buttresk.specs.Fields.{indicatorFields, identificationFields, gridFields};
+ghost use Rattle.buttresk.specs.Fields.{representationFields, bitMapFields, noIdentification};
 use sections::BitMap;
 use sections::GridDefinition;
 use sections::Identification;

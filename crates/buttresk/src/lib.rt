@@ -1,6 +1,8 @@
-// The C face of the library (include/buttresk.h says all of it to a C program): the walk, the public copy, the writer and the decoded
-// fields, as functions over lent octets and numbers that answer structs of numbers. Each is a thin coat over the library. The header has
-// these structs field by field, under the same names but for two that a language keeps for itself: `template_number`, `type`.
+// The C face of the library (include/buttresk.h says all of it to a C program): the walk, the
+// public copy, the writer and the decoded fields, as functions over lent octets and numbers that
+// answer structs of numbers. Each is a thin coat over the library. The header has these structs
+// field by field, under the same names but for two that a language keeps for itself:
+// `template_number`, `type`.
 mod fields;
 mod product;
 mod storing;

@@ -1,15 +1,13 @@
-// The decoded fields of section 4. A `known` stands beside every value that can be none: where it is 0, the value says nothing.
+// The decoded fields of section 4. A `known` stands beside every value that can be none: where it
+// is 0, the value says nothing.
 ghost use mathlib.Core.Path.{_≡_};
-ghost use Rattle.buttresk.specs.Product.{octetField, timeField, surfaceNumbers, surfacesField, productFields, definitionFields};
+ghost use Rattle.buttresk.specs.Product.{octetField, timeField, surfaceNumbers};
+ghost use Rattle.buttresk.specs.Product.{surfacesField, definitionFields, productFields};
 use products::FixedSurface;
 use products::MaybeOctet;
 use products::MaybeSurfaces;
 use products::MaybeTime;
-use products::fixed_surfaces;
-use products::forecast_time;
-use products::generating_process;
-use products::parameter_category;
-use products::parameter_number;
+use products::product_of;
 use sections::MaybeProdDefinition;
 use sections::ProdDefinition;
 
@@ -143,14 +141,20 @@ pub extern "C" fn buttresk_product_definition(payload: &[u8]) -> ProductFields
     ensures { λ r. ⌜ r ≡ productFields (now (payload .entry)) ⌝ }
 {
     let definition = definition_fields(ProdDefinition::from_payload(payload));
+    let product = product_of(payload);
+    let category = product.category;
+    let number = product.number;
+    let process = product.process;
+    let time = product.time;
+    let surfaces = product.surfaces;
     ProductFields {
         known: definition.known,
         coordinates: definition.coordinates,
         template: definition.template,
-        category: octet_field(parameter_category(payload)),
-        number: octet_field(parameter_number(payload)),
-        process: octet_field(generating_process(payload)),
-        time: time_field(forecast_time(payload)),
-        surfaces: surfaces_field(fixed_surfaces(payload)),
+        category: octet_field(category),
+        number: octet_field(number),
+        process: octet_field(process),
+        time: time_field(time),
+        surfaces: surfaces_field(surfaces),
     }
 }

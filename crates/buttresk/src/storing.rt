@@ -1,4 +1,5 @@
-// The public copy and the writer: a destination is lent, and the answer is how it ended and the octets written.
+// The public copy and the writer: a destination is lent, and the answer is how it ended and the
+// octets written.
 ghost use mathlib.Core.Path.{_≡_};
 ghost use Rattle.publish.specs.Values.{licensed};
 ghost use Rattle.publish.specs.Copy.{copyOf};
@@ -38,13 +39,16 @@ fn five_of(answer: StoreEnd) -> StoreAnswer
 // Writes the public copy of a file; a refusal leaves the destination as it was.
 #[no_mangle]
 pub extern "C" fn buttresk_publish(file: &[u8], dest: &mut [u8]) -> StoreAnswer
-    ensures answer { λ r. ⌜ r ≡ fiveOf (copyEnd (copyOf licensed (now (file .entry)) (now (dest .entry)) .answer)) ⌝ }
-    ensures dest { λ _. ⌜ now (dest .exit) ≡ copyOf licensed (now (file .entry)) (now (dest .entry)) .dest ⌝ }
+    ensures answer { λ r. ⌜ r ≡ fiveOf (copyEnd
+        (copyOf licensed (now (file .entry)) (now (dest .entry)) .answer)) ⌝ }
+    ensures dest { λ _. ⌜ now (dest .exit)
+        ≡ copyOf licensed (now (file .entry)) (now (dest .entry)) .dest ⌝ }
 {
     five_of(copy_end(publish(file, dest)))
 }
 
-// Writes the message of a plan, lent as rows of three numbers; a refusal leaves the destination as it was.
+// Writes the message of a plan, lent as rows of three numbers; a refusal leaves the destination as
+// it was.
 #[no_mangle]
 pub extern "C" fn buttresk_write(
     discipline: u8,
@@ -54,8 +58,10 @@ pub extern "C" fn buttresk_write(
     store: &[u8],
     dest: &mut [u8],
 ) -> StoreAnswer
-    ensures answer { λ r. ⌜ r ≡ fiveOf (writeEnd (writeOf discipline reserved_1 reserved_2 (now (plan .entry)) (now (store .entry)) (now (dest .entry)) .answer)) ⌝ }
-    ensures dest { λ _. ⌜ now (dest .exit) ≡ writeOf discipline reserved_1 reserved_2 (now (plan .entry)) (now (store .entry)) (now (dest .entry)) .dest ⌝ }
+    ensures answer { λ r. ⌜ r ≡ fiveOf (writeEnd (writeOf discipline reserved_1 reserved_2
+        (now (plan .entry)) (now (store .entry)) (now (dest .entry)) .answer)) ⌝ }
+    ensures dest { λ _. ⌜ now (dest .exit) ≡ writeOf discipline reserved_1 reserved_2
+        (now (plan .entry)) (now (store .entry)) (now (dest .entry)) .dest ⌝ }
 {
     five_of(write_end(write(discipline, reserved_1, reserved_2, plan, store, dest)))
 }

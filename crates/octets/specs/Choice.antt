@@ -1,4 +1,4 @@
--- A choice by a test, for the definitions of every crate. Assumes nothing.
+-- A choice by a test, for the definitions of every crate.
 use mathlib.Core.Bool.{Bool, true, false}
 
 -- the first where the test holds, else the second

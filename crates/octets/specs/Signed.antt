@@ -1,4 +1,4 @@
--- Numbers by sign and size, of 1 to 4 octets (01, "What is ported", 1). Assumes nothing.
+-- Numbers by sign and size, of 1 to 4 octets (01, "What is ported", 1).
 use Prim.Native.Nat.{ℕ, _-_, _*_, _%_, _^_}
 use mathlib.Core.List.{List}
 use lib.Dec.{ltb}

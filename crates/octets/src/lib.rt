@@ -4,14 +4,8 @@ ghost use mathlib.Core.Path.{_≡_};
 ghost use Prim.Native.Nat.{_-_, _*_, _^_, _<_, _≤_};
 ghost use lib.IntN.{pos, negℤ};
 ghost use lib.ListN.{length};
-ghost use Rattle.octets.specs.BigEndian.{beAt, numberOf};
+ghost use Rattle.octets.specs.BigEndian.{beAt};
 ghost use Rattle.octets.specs.Signed.{signedOf};
-
-// What a slice writes as a big-endian number.
-pub enum Number {
-    Value(u64),
-    NoNumber,
-}
 
 // What a slice writes by sign and size.
 pub enum Signed {
@@ -29,7 +23,8 @@ fn wide(octet: u8) -> u64
 // The number that all octets of `s` write, at most 8 of them.
 fn big_endian(s: &[u8]) -> u64
     requires { ⌜ length (now s) ≤ 8 ⌝ }
-    ensures { λ r. ⌜ (r ≡ beAt (now (s .entry)) 0 (length (now (s .entry)))) × (r < 256 ^ length (now (s .entry))) ⌝ }
+    ensures { λ r. ⌜ (r ≡ beAt (now (s .entry)) 0 (length (now (s .entry))))
+        × (r < 256 ^ length (now (s .entry))) ⌝ }
 {
     let mut sum: u64 = 0;
     let mut i: usize = 0;
@@ -59,17 +54,6 @@ pub fn be64(octets: [u8; 8]) -> u64
     ensures { λ r. ⌜ r ≡ beAt octets 0 8 ⌝ }
 {
     big_endian(&octets)
-}
-
-// The number that a slice of 2, 4 or 8 octets writes; of any other length: no number.
-pub fn number_of(s: &[u8]) -> Number
-    ensures { λ r. ⌜ r ≡ numberOf (now (s .entry)) ⌝ }
-{
-    let width = s.len();
-    match width {
-        2 | 4 | 8 => Number::Value(big_endian(s)),
-        _ => Number::NoNumber,
-    }
 }
 
 // The first number that `n` octets can't write as a size: their top bit is the sign.

@@ -1,4 +1,4 @@
--- What a table of ranges says of a whole interval, computed once, holds at each of its numbers. Assumes nothing.
+-- What a table of ranges says of a whole interval, computed once, holds at each of its numbers.
 use mathlib.Core.Path.{_≡_, refl, sym, _∙_}
 use mathlib.Core.Bool.{Bool, true, false}
 use mathlib.Core.List.{List, [], _∷_}

@@ -1,4 +1,4 @@
--- The product fields of a payload of section 4, octets from 0 (01, "Fields": "Product fields"). Assumes nothing.
+-- The product fields of a payload of section 4, octets from 0 (01, "Fields": "Product fields").
 use Prim.Native.Nat.{ℕ}
 use mathlib.Core.List.{List}
 use lib.Dec.{ltb}
@@ -19,12 +19,15 @@ use Rattle.products.specs.declared.MaybeSurface.{MaybeSurface}
 use Rattle.products.specs.declared.MaybeSurface.the-variants.{Surface, NoSurface}
 use Rattle.products.specs.declared.MaybeSurfaces.{MaybeSurfaces}
 use Rattle.products.specs.declared.MaybeSurfaces.the-variants.{Both, NoSurfaces}
+use Rattle.products.specs.declared.Product.{Product}
 use Rattle.products.specs.declared.Supported.{Supported}
 use Rattle.products.specs.declared.Supported.the-variants.{Template, NoTemplate}
 
 -- the template number: none under the least payload, and none if it is not supported
 unfoldable pub supportedOf : List ℕ → Supported
-supportedOf s = pick (ltb (length s) 4) NoTemplate (pick (isSupported (beAt s 2 2)) (Template (beAt s 2 2)) NoTemplate)
+supportedOf s =
+    pick (ltb (length s) 4) NoTemplate
+    (pick (isSupported (beAt s 2 2)) (Template (beAt s 2 2)) NoTemplate)
 
 -- the first octet, if there is one
 unfoldable pub octetOf : List ℕ → MaybeOctet
@@ -41,7 +44,9 @@ surfaceBy t NoNumber v = NoSurface
 
 -- a surface: type (1), scale factor (1, signed), scaled value (4, signed)
 unfoldable pub surfaceOf : List ℕ → MaybeSurface
-surfaceOf s = pick (ltb (length s) 6) NoSurface (surfaceBy (getD s 0 0) (signedOf (take 1 (drop 1 s))) (signedOf (take 4 (drop 2 s))))
+surfaceOf s =
+    pick (ltb (length s) 6) NoSurface
+    (surfaceBy (getD s 0 0) (signedOf (take 1 (drop 1 s))) (signedOf (take 4 (drop 2 s))))
 
 abbrev both : MaybeSurface → MaybeSurface → MaybeSurfaces
 both (Surface a) (Surface b) = Both a b
@@ -66,8 +71,8 @@ byIndex none f s Absent = none
 unfoldable pub categoryOf : List ℕ → MaybeOctet
 categoryOf s = byTemplate NoOctet (λ n. byIndex NoOctet octetOf s (At 0)) (supportedOf s)
 
-unfoldable pub numberOf : List ℕ → MaybeOctet
-numberOf s = byTemplate NoOctet (λ n. byIndex NoOctet octetOf s (At 1)) (supportedOf s)
+unfoldable pub parameterOf : List ℕ → MaybeOctet
+parameterOf s = byTemplate NoOctet (λ n. byIndex NoOctet octetOf s (At 1)) (supportedOf s)
 
 -- generating process, time and surfaces at 4 plus an index chosen by the template number
 unfoldable pub processOf : List ℕ → MaybeOctet
@@ -77,4 +82,16 @@ unfoldable pub forecastOf : List ℕ → MaybeTime
 forecastOf s = byTemplate NoTime (λ n. byIndex NoTime timeOf s (timeIndex n)) (supportedOf s)
 
 unfoldable pub fixedOf : List ℕ → MaybeSurfaces
-fixedOf s = byTemplate NoSurfaces (λ n. byIndex NoSurfaces surfacesOf s (surfacesIndex n)) (supportedOf s)
+fixedOf s =
+    byTemplate NoSurfaces (λ n. byIndex NoSurfaces surfacesOf s (surfacesIndex n)) (supportedOf s)
+
+-- all five
+unfoldable pub productOf : List ℕ → Product
+productOf s =
+    record {
+      category = categoryOf s;
+      number = parameterOf s;
+      process = processOf s;
+      time = forecastOf s;
+      surfaces = fixedOf s;
+    }

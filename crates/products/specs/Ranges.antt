@@ -1,4 +1,4 @@
--- A table of ranges, and what it says of a number. Assumes nothing.
+-- A table of ranges, and what it says of a number.
 use Prim.Native.Nat.{ℕ}
 use mathlib.Core.List.{List, [], _∷_}
 use lib.Dec.{leb}

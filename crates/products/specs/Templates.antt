@@ -1,6 +1,6 @@
--- Product definition templates: which numbers are supported, and where a template holds its generating process,
--- its time and its surfaces. Each index counts octets from the template's first one (payload octet 4), as in the
--- crate's sections.rs, whose ranges stand here in their order. Assumes nothing.
+-- Product definition templates: which numbers are supported, and where a template holds its
+-- generating process, its time and its surfaces. Each index counts octets from the template's first
+-- one (payload octet 4), as in the crate's sections.rs, whose ranges stand here in their order.
 use Prim.Native.Nat.{ℕ}
 use mathlib.Core.Bool.{Bool, true, false}
 use mathlib.Core.List.{List, [], _∷_}

@@ -1,8 +1,13 @@
-// Product fields (document 01, "Fields"; the crate's ProdDefinition): what a payload of section 4 says by its
-// template. The template begins at payload octet 4; what stands where in it is asked of `templates`.
+// Product fields (document 01, "Fields"; the crate's ProdDefinition): what a payload of section 4
+// says by its template. The template begins at payload octet 4; what stands where in it is asked of
+// `templates`.
 ghost use mathlib.Core.Path.{_≡_};
 ghost use lib.ListN.{drop};
-ghost use Rattle.products.specs.Products.{octetOf, timeOf, surfaceOf, surfacesOf, supportedOf, categoryOf, numberOf, processOf, forecastOf, fixedOf};
+ghost use Rattle.products.specs.Products.{octetOf, timeOf, surfaceOf, surfacesOf};
+ghost use Rattle.products.specs.Products.{supportedOf, byIndex, productOf};
+ghost use Rattle.products.specs.declared.MaybeOctet.the-variants.{NoOctet};
+ghost use Rattle.products.specs.declared.MaybeTime.the-variants.{NoTime};
+ghost use Rattle.products.specs.declared.MaybeSurfaces.the-variants.{NoSurfaces};
 
 mod templates;
 
@@ -51,6 +56,16 @@ enum MaybeSurface {
 pub enum MaybeSurfaces {
     Both(FixedSurface, FixedSurface),
     NoSurfaces,
+}
+
+// What a payload of section 4 says by its template. Category and number are of the code tables 4.1
+// and 4.2, the generating process of 4.3.
+pub struct Product {
+    pub category: MaybeOctet,
+    pub number: MaybeOctet,
+    pub process: MaybeOctet,
+    pub time: MaybeTime,
+    pub surfaces: MaybeSurfaces,
 }
 
 // The template number of a payload that has a supported one.
@@ -140,59 +155,59 @@ fn supported_of(payload: &[u8]) -> Supported
     }
 }
 
-// Code table 4.1
-pub fn parameter_category(payload: &[u8]) -> MaybeOctet
-    ensures { λ r. ⌜ r ≡ categoryOf (now (payload .entry)) ⌝ }
+// The octet at an index of the payload's template.
+fn octet_at(payload: &[u8], index: Index) -> MaybeOctet
+    ensures { λ r. ⌜ r ≡ byIndex NoOctet octetOf (now (payload .entry)) index ⌝ }
 {
-    let Supported::Template(_) = supported_of(payload) else {
+    let Index::At(at) = index else {
         return MaybeOctet::NoOctet;
     };
-    octet_of(from(from(payload, TEMPLATE), CATEGORY))
+    octet_of(from(from(payload, TEMPLATE), at))
 }
 
-// Code table 4.2
-pub fn parameter_number(payload: &[u8]) -> MaybeOctet
-    ensures { λ r. ⌜ r ≡ numberOf (now (payload .entry)) ⌝ }
+// The time at an index of the payload's template.
+fn time_at(payload: &[u8], index: Index) -> MaybeTime
+    ensures { λ r. ⌜ r ≡ byIndex NoTime timeOf (now (payload .entry)) index ⌝ }
 {
-    let Supported::Template(_) = supported_of(payload) else {
-        return MaybeOctet::NoOctet;
-    };
-    octet_of(from(from(payload, TEMPLATE), PARAMETER))
-}
-
-// Code table 4.3
-pub fn generating_process(payload: &[u8]) -> MaybeOctet
-    ensures { λ r. ⌜ r ≡ processOf (now (payload .entry)) ⌝ }
-{
-    let Supported::Template(template) = supported_of(payload) else {
-        return MaybeOctet::NoOctet;
-    };
-    let Index::At(index) = templates::generating_process(template) else {
-        return MaybeOctet::NoOctet;
-    };
-    octet_of(from(from(payload, TEMPLATE), index))
-}
-
-pub fn forecast_time(payload: &[u8]) -> MaybeTime
-    ensures { λ r. ⌜ r ≡ forecastOf (now (payload .entry)) ⌝ }
-{
-    let Supported::Template(template) = supported_of(payload) else {
+    let Index::At(at) = index else {
         return MaybeTime::NoTime;
     };
-    let Index::At(index) = templates::forecast_time(template) else {
-        return MaybeTime::NoTime;
-    };
-    time_of(from(from(payload, TEMPLATE), index))
+    time_of(from(from(payload, TEMPLATE), at))
 }
 
-pub fn fixed_surfaces(payload: &[u8]) -> MaybeSurfaces
-    ensures { λ r. ⌜ r ≡ fixedOf (now (payload .entry)) ⌝ }
+// The surfaces at an index of the payload's template.
+fn surfaces_at(payload: &[u8], index: Index) -> MaybeSurfaces
+    ensures { λ r. ⌜ r ≡ byIndex NoSurfaces surfacesOf (now (payload .entry)) index ⌝ }
+{
+    let Index::At(at) = index else {
+        return MaybeSurfaces::NoSurfaces;
+    };
+    surfaces_of(from(from(payload, TEMPLATE), at))
+}
+
+// All product fields. The template is judged once; each field is then there or none by itself.
+pub fn product_of(payload: &[u8]) -> Product
+    ensures { λ r. ⌜ r ≡ productOf (now (payload .entry)) ⌝ }
 {
     let Supported::Template(template) = supported_of(payload) else {
-        return MaybeSurfaces::NoSurfaces;
+        return Product {
+            category: MaybeOctet::NoOctet,
+            number: MaybeOctet::NoOctet,
+            process: MaybeOctet::NoOctet,
+            time: MaybeTime::NoTime,
+            surfaces: MaybeSurfaces::NoSurfaces,
+        };
     };
-    let Index::At(index) = templates::fixed_surfaces(template) else {
-        return MaybeSurfaces::NoSurfaces;
-    };
-    surfaces_of(from(from(payload, TEMPLATE), index))
+    let category = octet_at(payload, Index::At(CATEGORY));
+    let number = octet_at(payload, Index::At(PARAMETER));
+    let process = octet_at(payload, templates::generating_process(template));
+    let time = time_at(payload, templates::forecast_time(template));
+    let surfaces = surfaces_at(payload, templates::fixed_surfaces(template));
+    Product {
+        category,
+        number,
+        process,
+        time,
+        surfaces,
+    }
 }

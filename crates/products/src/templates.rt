@@ -2,7 +2,8 @@
 // generating process, its time and its surfaces. The ranges are those of the crate's sections.rs,
 // in their order.
 ghost use mathlib.Core.Path.{_≡_};
-ghost use Rattle.products.specs.Templates.{isSupported, processIndex, timeIndex, surfacesIndex};
+ghost use Rattle.products.specs.Templates.{isSupported, processIndex};
+ghost use Rattle.products.specs.Templates.{timeIndex, surfacesIndex};
 
 // An octet of a template, counted from the template's first one.
 pub(crate) enum Index {

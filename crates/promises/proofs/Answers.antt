@@ -1,6 +1,6 @@
 -- Every public function of the library, and what is promised of it (specs/Contract.antt): it asks for nothing, every call ends as its
 -- contract says, and the contract leaves one answer and one content of lent memory. Not here are the functions that only print
--- (docs/CONTRACTS.md lists them): they answer nothing and are lent nothing to write. Assumes nothing.
+-- (docs/CONTRACTS.md lists them): they answer nothing and are lent nothing to write.
 use Prim.Native.Nat.{ℕ}
 use mathlib.Core.Path.{_≡_, refl}
 use mathlib.Core.List.{List}
@@ -63,9 +63,6 @@ module _ {M : Type 1} where
 
   pub octets-be64 : Promise octets.be64.ended {M = M} octets.be64.clauses octets.be64.Symbol.routine
   octets-be64 = told _ _ _ _ _ octets.be64.Met.met (λ n. refl) (λ n. _) (λ n r e. id⊢ (n .memory) _)
-
-  pub octets-number-of : Promise octets.number_of.ended {M = M} octets.number_of.clauses octets.number_of.Symbol.routine
-  octets-number-of = told _ _ _ _ _ octets.number_of.Met.met (λ n. refl) (λ n. _) (λ n r e. id⊢ (n .memory) _)
 
   pub octets-sign-and-size : Promise octets.sign_and_size.ended {M = M} octets.sign_and_size.clauses octets.sign_and_size.Symbol.routine
   octets-sign-and-size = told _ _ _ _ _ octets.sign_and_size.Met.met (λ n. refl) (λ n. _) (λ n r e. id⊢ (n .memory) _)
@@ -137,25 +134,8 @@ module _ {M : Type 1} where
   BitMap-from-payload = told _ _ _ _ _ BitMap.from_payload.Met.met (λ n. refl) (λ n. _) (λ n r e. id⊢ (n .memory) _)
 
   -- products: the product fields
-  pub products-parameter-category :
-      Promise products.parameter_category.ended {M = M} products.parameter_category.clauses products.parameter_category.Symbol.routine
-  products-parameter-category = told _ _ _ _ _ products.parameter_category.Met.met (λ n. refl) (λ n. _) (λ n r e. id⊢ (n .memory) _)
-
-  pub products-parameter-number :
-      Promise products.parameter_number.ended {M = M} products.parameter_number.clauses products.parameter_number.Symbol.routine
-  products-parameter-number = told _ _ _ _ _ products.parameter_number.Met.met (λ n. refl) (λ n. _) (λ n r e. id⊢ (n .memory) _)
-
-  pub products-generating-process :
-      Promise products.generating_process.ended {M = M} products.generating_process.clauses products.generating_process.Symbol.routine
-  products-generating-process = told _ _ _ _ _ products.generating_process.Met.met (λ n. refl) (λ n. _) (λ n r e. id⊢ (n .memory) _)
-
-  pub products-forecast-time :
-      Promise products.forecast_time.ended {M = M} products.forecast_time.clauses products.forecast_time.Symbol.routine
-  products-forecast-time = told _ _ _ _ _ products.forecast_time.Met.met (λ n. refl) (λ n. _) (λ n r e. id⊢ (n .memory) _)
-
-  pub products-fixed-surfaces :
-      Promise products.fixed_surfaces.ended {M = M} products.fixed_surfaces.clauses products.fixed_surfaces.Symbol.routine
-  products-fixed-surfaces = told _ _ _ _ _ products.fixed_surfaces.Met.met (λ n. refl) (λ n. _) (λ n r e. id⊢ (n .memory) _)
+  pub products-product-of : Promise products.product_of.ended {M = M} products.product_of.clauses products.product_of.Symbol.routine
+  products-product-of = told _ _ _ _ _ products.product_of.Met.met (λ n. refl) (λ n. _) (λ n r e. id⊢ (n .memory) _)
 
   -- framing: where the next message starts, and what stands there. `next_start`'s contract says which start is the first: there is one
   pub framing-framed-at : Promise framing.framed_at.ended {M = M} framing.framed_at.clauses framing.framed_at.Symbol.routine

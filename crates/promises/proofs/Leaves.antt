@@ -1,4 +1,4 @@
--- Demand 1: what a walk, a public copy and a write leave of the memory that they are lent. Assumes nothing.
+-- Demand 1: what a walk, a public copy and a write leave of the memory that they are lent.
 use Prim.Native.Nat.{ℕ, _*_, _≤_}
 use native.Mathlib.Omega.{arith}
 use mathlib.Core.Path.{_≡_, refl, sym, _∙_}
@@ -20,7 +20,7 @@ use Rattle.publish.specs.Values.{licensed}
 use Rattle.publish.specs.Copy.{publicCopy, Copied, byOutcome, copyOf}
 use Rattle.publish.specs.End.{copyEnd}
 use Rattle.writer.specs.Plan.{partsOf, judgedPlan}
-use Rattle.writer.specs.Message.{message}
+use Rattle.writer.specs.Message.{messageOctets}
 use Rattle.writer.specs.Write.{destOf, writeOf}
 use Rattle.writer.specs.End.{writeEnd}
 use Rattle.writer.specs.declared.Written.{Written}
@@ -111,7 +111,7 @@ unfolding writeOf destOf writeEnd stored
 write-leaves discipline reserved₁ reserved₂ plan store dest = go (judgedPlan (partsOf plan) (length store) (length dest)) refl
   where
     octets : List ℕ
-    octets = message discipline reserved₁ reserved₂ (partsOf plan) store
+    octets = messageOctets discipline reserved₁ reserved₂ (partsOf plan) store
 
     go : (w : Written) → judgedPlan (partsOf plan) (length store) (length dest) ≡ w
         → Leaves (writeEnd w .written) dest (destOf w octets dest)

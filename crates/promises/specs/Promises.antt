@@ -1,5 +1,5 @@
 -- The promises of Buttresk: its three demands, over the definitions that the contracts cite. Each demand stands in its own words, and under
--- it what is proved (proofs/Kept.antt; proofs/Answers.antt for every public function). Assumes nothing.
+-- it what is proved (proofs/Kept.antt; proofs/Answers.antt for every public function).
 use Prim.Native.Nat.{ℕ, _*_, _≤_, _<_}
 use mathlib.Core.Bool.{true}
 use mathlib.Core.Path.{_≡_}
@@ -37,7 +37,7 @@ use Rattle.walk_laws.specs.Laws.{
   CleanInAnyRoom,
 }
 use Rattle.walk_laws.specs.Samples.{StarredHold}
-use Rattle.round_trip.specs.Faults.{Nowhere, OneMessage}
+use Rattle.round_trip.specs.Faults.{AtNone, OneMessage}
 use Rattle.round_trip.specs.ReadBack.{numbersOf, ReadsBack}
 use Rattle.blindness.specs.Agree.{decoded}
 use Rattle.blindness.specs.Blindness.{Blindness, LentBlindness, PublicCopies}
@@ -122,7 +122,8 @@ pub record Demand2 : Type 0 where
   -- a plan is one message where the order finds its numbers clean, with 0 before and 8 after, and no 8 among them
   pub plan-order : (parts : List Part)
       → Iff (OneMessage parts)
-      ((orderNumber (orderOf (0 ∷ (numbersOf parts ++ (8 ∷ [])))) ≡ 0) × Nowhere (λ part. part .number ≡ 8) parts)
+      ((orderNumber (orderOf (0 ∷ (numbersOf parts ++ (8 ∷ [])))) ≡ 0)
+      × AtNone (λ part. part .number ≡ 8) parts)
   -- what is written reads back: rows, payloads, discipline, and a clean walk with any tables that hold the lines
   pub reads-back : (discipline reserved₁ reserved₂ : ℕ) (plan store dest : List ℕ)
       → let wrote = writeOf discipline reserved₁ reserved₂ plan store dest in

@@ -1,4 +1,4 @@
--- Each answer of the writer is given exactly when 01 says so: 15 to 19 and success. Assumes nothing.
+-- Each answer of the writer is given exactly when 01 says so: 15 to 19 and success.
 use Prim.Native.Nat.{ℕ, _≤_, _<_}
 use native.Mathlib.Omega.{arith}
 use mathlib.Core.Path.{_≡_, refl, sym, ap, subst}
@@ -10,14 +10,12 @@ use lib.ListN.{length}
 use borrow.Author.Tests.{ltb-true, ltb-false, lt-ltb, le-ltb}
 use Rattle.octets.specs.Choice.{pick}
 use Rattle.framing.proofs.Tests.{by-test}
-use Rattle.index.specs.Lines.{place}
-use Rattle.writer.specs.Plan.{Part, partsOf, misfit, firstAt, isOutside, isWrongSize, totalOf, unless, judgedPlan}
+use Rattle.index.specs.Bounds.{mostOctets}
+use Rattle.writer.specs.Plan.{Part, Finding, noFault, faultAt, mostSections, planPlace, partsOf, misfit, firstAt, isOutside, isWrongSize, totalOf, unless, judgedPlan}
 use Rattle.writer.specs.Write.{writeOf}
-use Rattle.writer.specs.declared.Check.{Check}
-use Rattle.writer.specs.declared.Check.the-variants.{Passed, At}
 use Rattle.writer.specs.declared.Written.{Written}
 use Rattle.writer.specs.declared.Written.the-variants.{Whole, TooManySections, NotOneMessage, OutsideStore, PayloadSize, NoRoom}
-use Rattle.round_trip.specs.Faults.{Iff, First, Nowhere, OneMessage, FirstMisfit, Outside, WrongSize, TooLarge, GivenWhen}
+use Rattle.round_trip.specs.Faults.{Iff, FirstAt, AtNone, OneMessage, FirstMisfit, Outside, WrongSize, TooLarge, GivenWhen}
 use Rattle.round_trip.proofs.First.{outside-iff, inside-iff, wrong-iff, sized-iff}
 use Rattle.round_trip.proofs.Ordered.{misfit-iff, message-iff, not-one-iff}
 
@@ -27,75 +25,75 @@ module _ (parts : List Part) (store room : ℕ) where
 
   -- 19, and success
   abbrev ending : Written
-  ending = pick (ltb room (totalOf parts)) NoRoom (pick (ltb 1099511627776 (totalOf parts)) NoRoom (Whole (totalOf parts)))
+  ending = pick (ltb room (totalOf parts)) NoRoom (pick (ltb mostOctets (totalOf parts)) NoRoom (Whole (totalOf parts)))
 
-  abbrev from-18 : Check → Written
+  abbrev from-18 : Finding → Written
   from-18 c = unless c PayloadSize ending
 
-  abbrev from-17 : Check → Written
+  abbrev from-17 : Finding → Written
   from-17 c = unless c OutsideStore (from-18 (firstAt isWrongSize 0 parts))
 
-  abbrev from-16 : Check → Written
+  abbrev from-16 : Finding → Written
   from-16 c = unless c NotOneMessage (from-17 (firstAt (isOutside store) 0 parts))
 
   -- what is answered is due
   given : Given (judgedPlan parts store room)
   unfolding judgedPlan
   given =
-      by-test Given (ltb 4096 (length parts)) (λ e. ltb-true _ _ e) λ e.
-      given-16 (ltb-false 4096 (length parts) e) (misfit parts) refl
+      by-test Given (ltb mostSections (length parts)) (λ e. ltb-true _ _ e) λ e.
+      given-16 (ltb-false mostSections (length parts) e) (misfit parts) refl
     where
-      given-18 : length parts ≤ 4096 → OneMessage parts → Nowhere (Outside store) parts → (c : Check) → firstAt isWrongSize 0 parts ≡ c
+      given-18 : length parts ≤ mostSections → OneMessage parts → AtNone (Outside store) parts → (c : Finding) → firstAt isWrongSize 0 parts ≡ c
           → Given (from-18 c)
-      given-18 few one inside (At at) e = (few, one, inside, wrong-iff (at .0) parts .0 e)
-      given-18 few one inside Passed e =
+      given-18 few one inside (faultAt at) e = (few, one, inside, wrong-iff (at .0) parts .0 e)
+      given-18 few one inside noFault e =
           let sized = sized-iff parts .0 e in
           by-test Given (ltb room (totalOf parts)) (λ x. (few, one, inside, sized, inl (ltb-true _ _ x))) λ x.
-          by-test Given (ltb 1099511627776 (totalOf parts)) (λ y. (few, one, inside, sized, inr (ltb-true _ _ y))) λ y.
+          by-test Given (ltb mostOctets (totalOf parts)) (λ y. (few, one, inside, sized, inr (ltb-true _ _ y))) λ y.
           (few, one, inside, sized, ltb-false _ _ x, ltb-false _ _ y, refl)
 
-      given-17 : length parts ≤ 4096 → OneMessage parts → (c : Check) → firstAt (isOutside store) 0 parts ≡ c → Given (from-17 c)
-      given-17 few one (At at) e = (few, one, outside-iff store (at .0) parts .0 e)
-      given-17 few one Passed e = given-18 few one (inside-iff store parts .0 e) (firstAt isWrongSize 0 parts) refl
+      given-17 : length parts ≤ mostSections → OneMessage parts → (c : Finding) → firstAt (isOutside store) 0 parts ≡ c → Given (from-17 c)
+      given-17 few one (faultAt at) e = (few, one, outside-iff store (at .0) parts .0 e)
+      given-17 few one noFault e = given-18 few one (inside-iff store parts .0 e) (firstAt isWrongSize 0 parts) refl
 
-      given-16 : length parts ≤ 4096 → (c : Check) → misfit parts ≡ c → Given (from-16 c)
-      given-16 few (At at) e = (few, misfit-iff (at .0) parts .0 e)
-      given-16 few Passed e = given-17 few (message-iff parts .0 e) (firstAt (isOutside store) 0 parts) refl
+      given-16 : length parts ≤ mostSections → (c : Finding) → misfit parts ≡ c → Given (from-16 c)
+      given-16 few (faultAt at) e = (few, misfit-iff (at .0) parts .0 e)
+      given-16 few noFault e = given-17 few (message-iff parts .0 e) (firstAt (isOutside store) 0 parts) refl
 
   -- and what is due is answered
   due : (w : Written) → Given w → judgedPlan parts store room ≡ w
   unfolding judgedPlan
-  due TooManySections over = rw (lt-ltb 4096 (length parts) over)
-  due (NotOneMessage at) g = rw (le-ltb 4096 (length parts) (g .0), misfit-iff (at .0) parts .1 (g .1))
+  due TooManySections over = rw (lt-ltb mostSections (length parts) over)
+  due (NotOneMessage at) g = rw (le-ltb mostSections (length parts) (g .0), misfit-iff (at .0) parts .1 (g .1))
   due (OutsideStore at) g =
-      rw (le-ltb 4096 (length parts) (g .0), message-iff parts .1 (g .1), outside-iff store (at .0) parts .1 (g .2))
+      rw (le-ltb mostSections (length parts) (g .0), message-iff parts .1 (g .1), outside-iff store (at .0) parts .1 (g .2))
   due (PayloadSize at) g =
       rw (
-        le-ltb 4096 (length parts) (g .0),
+        le-ltb mostSections (length parts) (g .0),
         message-iff parts .1 (g .1),
         inside-iff store parts .1 (g .2),
         wrong-iff (at .0) parts .1 (g .3),
       )
   due NoRoom g =
-      rw (le-ltb 4096 (length parts) (g .0), message-iff parts .1 (g .1), inside-iff store parts .1 (g .2), sized-iff parts .1 (g .3))
-      (too-large (ltb room (totalOf parts)) (ltb 1099511627776 (totalOf parts)) refl refl (g .4))
+      rw (le-ltb mostSections (length parts) (g .0), message-iff parts .1 (g .1), inside-iff store parts .1 (g .2), sized-iff parts .1 (g .3))
+      (too-large (ltb room (totalOf parts)) (ltb mostOctets (totalOf parts)) refl refl (g .4))
     where
-      too-large : (a b : Bool) → ltb room (totalOf parts) ≡ a → ltb 1099511627776 (totalOf parts) ≡ b → TooLarge parts room
+      too-large : (a b : Bool) → ltb room (totalOf parts) ≡ a → ltb mostOctets (totalOf parts) ≡ b → TooLarge parts room
           → pick a NoRoom (pick b NoRoom (Whole (totalOf parts))) ≡ NoRoom
       too-large true b x y large = refl
       too-large false true x y large = refl
       too-large false false x y large =
           let fits = ltb-false room (totalOf parts) x in
-          let small = ltb-false 1099511627776 (totalOf parts) y in
+          let small = ltb-false mostOctets (totalOf parts) y in
           absurd (⊎-elim (λ over. omega arith) (λ over. omega arith) large)
   due (Whole total) g =
       rw (
-        le-ltb 4096 (length parts) (g .0),
+        le-ltb mostSections (length parts) (g .0),
         message-iff parts .1 (g .1),
         inside-iff store parts .1 (g .2),
         sized-iff parts .1 (g .3),
         le-ltb room (totalOf parts) (g .4),
-        le-ltb 1099511627776 (totalOf parts) (g .5),
+        le-ltb mostOctets (totalOf parts) (g .5),
       )
       (ap Whole (sym (g .6)))
 
@@ -115,41 +113,41 @@ module _ (discipline reserved₁ reserved₂ : ℕ) (plan store dest : List ℕ)
   )
 
   -- 15: the plan has over 4,096 sections
-  pub exactly-15 : Iff (answer ≡ TooManySections) (4096 < length parts)
+  pub exactly-15 : Iff (answer ≡ TooManySections) (mostSections < length parts)
   exactly-15 = exactly TooManySections
 
   -- 16: its numbers, with 0 before and 8 after, are not one message
-  pub exactly-16-some : Iff ((at : ℕ) × (answer ≡ NotOneMessage (place at))) ((length parts ≤ 4096) × (OneMessage parts → ⊥))
+  pub exactly-16-some : Iff ((at : ℕ) × (answer ≡ NotOneMessage (planPlace at))) ((length parts ≤ mostSections) × (OneMessage parts → ⊥))
   exactly-16-some = (
-    (λ s. let g = exactly (NotOneMessage (place (s .0))) .0 (s .1) in (g .0, not-one-iff parts .0 (s .0, g .1))),
-    λ h. let m = not-one-iff parts .1 (h .1) in (m .0, exactly (NotOneMessage (place (m .0))) .1 (h .0, m .1)),
+    (λ s. let g = exactly (NotOneMessage (planPlace (s .0))) .0 (s .1) in (g .0, not-one-iff parts .0 (s .0, g .1))),
+    λ h. let m = not-one-iff parts .1 (h .1) in (m .0, exactly (NotOneMessage (planPlace (m .0))) .1 (h .0, m .1)),
   )
 
   -- and the place is that of the first that misfits
-  pub exactly-16 : (at : ℕ) → Iff (answer ≡ NotOneMessage (place at)) ((length parts ≤ 4096) × FirstMisfit parts at)
-  exactly-16 at = exactly (NotOneMessage (place at))
+  pub exactly-16 : (at : ℕ) → Iff (answer ≡ NotOneMessage (planPlace at)) ((length parts ≤ mostSections) × FirstMisfit parts at)
+  exactly-16 at = exactly (NotOneMessage (planPlace at))
 
   -- 17: a payload part's offset plus length is over the store's length; the first such
   pub exactly-17 : (at : ℕ)
-      → Iff (answer ≡ OutsideStore (place at)) ((length parts ≤ 4096) × OneMessage parts × First (Outside (length store)) parts at)
-  exactly-17 at = exactly (OutsideStore (place at))
+      → Iff (answer ≡ OutsideStore (planPlace at)) ((length parts ≤ mostSections) × OneMessage parts × FirstAt (Outside (length store)) parts at)
+  exactly-17 at = exactly (OutsideStore (planPlace at))
 
   -- 18: a payload is under its least or over 4,294,967,290; the first such
   pub exactly-18 : (at : ℕ)
-      → Iff (answer ≡ PayloadSize (place at))
-      ((length parts ≤ 4096) × OneMessage parts × Nowhere (Outside (length store)) parts × First WrongSize parts at)
-  exactly-18 at = exactly (PayloadSize (place at))
+      → Iff (answer ≡ PayloadSize (planPlace at))
+      ((length parts ≤ mostSections) × OneMessage parts × AtNone (Outside (length store)) parts × FirstAt WrongSize parts at)
+  exactly-18 at = exactly (PayloadSize (planPlace at))
 
   -- 19: the destination is shorter than the message, or the message over 2^40 octets
   pub exactly-19 :
       Iff (answer ≡ NoRoom)
-      ((length parts ≤ 4096) × OneMessage parts × Nowhere (Outside (length store)) parts × Nowhere WrongSize parts
+      ((length parts ≤ mostSections) × OneMessage parts × AtNone (Outside (length store)) parts × AtNone WrongSize parts
       × TooLarge parts (length dest))
   exactly-19 = exactly NoRoom
 
   -- success: none of these, and the total is the message's
   pub exactly-whole : (total : ℕ)
       → Iff (answer ≡ Whole total)
-      ((length parts ≤ 4096) × OneMessage parts × Nowhere (Outside (length store)) parts × Nowhere WrongSize parts
-      × (totalOf parts ≤ length dest) × (totalOf parts ≤ 1099511627776) × (total ≡ totalOf parts))
+      ((length parts ≤ mostSections) × OneMessage parts × AtNone (Outside (length store)) parts × AtNone WrongSize parts
+      × (totalOf parts ≤ length dest) × (totalOf parts ≤ mostOctets) × (total ≡ totalOf parts))
   exactly-whole total = exactly (Whole total)

@@ -1,4 +1,4 @@
--- The listing of a written message is the plan's sections, with section 0 before and section 8 after. Assumes nothing.
+-- The listing of a written message is the plan's sections, with section 0 before and section 8 after.
 use Prim.Native.Nat.{ℕ, suc, _+_, _-_, _≤_, _<_, _^_}
 use native.Mathlib.Omega.{arith}
 use native.Mathlib.Nat.{add-zero, add-assoc, sub-self}
@@ -19,8 +19,8 @@ use Rattle.framing.specs.declared.read.Section.{Section}
 use Rattle.framing.specs.Read.{Over}
 use Rattle.framing.specs.declared.search.Found.the-variants.{At}
 use Rattle.framing.proofs.Listing.{listingOn, listing-next, listing-is}
-use Rattle.writer.specs.Plan.{Part, sizeOf, totalOf}
-use Rattle.writer.specs.Message.{digits, indicator, section, body, message}
+use Rattle.writer.specs.Plan.{Part, sectionsSize, totalOf}
+use Rattle.writer.specs.Message.{digits, indicatorOctets, sectionOctets, bodyOctets, messageOctets}
 use Rattle.writer.proofs.Checks.{Sound, AllSound, none, one}
 use Rattle.writer.proofs.Stored.{length-digits}
 use Rattle.writer.proofs.Lengths.{length-section, length-indicator}
@@ -32,10 +32,10 @@ unfoldable pub toEnd : ℕ → List Part → List Section
 toEnd at [] = row 8 at 4 ∷ []
 toEnd at (part ∷ more) = row (part .number) at (part .length + 5) ∷ toEnd (at + (part .length + 5)) more
 
-pub to-end : (at : ℕ) (parts : List Part) → toEnd at parts ≡ sectionsFrom at parts ++ (row 8 (at + sizeOf parts) 4 ∷ [])
-unfolding toEnd sectionsFrom sizeOf
+pub to-end : (at : ℕ) (parts : List Part) → toEnd at parts ≡ sectionsFrom at parts ++ (row 8 (at + sectionsSize parts) 4 ∷ [])
+unfolding toEnd sectionsFrom sectionsSize
 to-end at [] = rw add-zero
-to-end at (part ∷ more) = rw (to-end (at + (part .length + 5)) more, add-assoc at (part .length + 5) (sizeOf more))
+to-end at (part ∷ more) = rw (to-end (at + (part .length + 5)) more, add-assoc at (part .length + 5) (sectionsSize more))
 
 abbrev end : List ℕ
 end = 55 ∷ 55 ∷ 55 ∷ 55 ∷ []
@@ -96,28 +96,28 @@ payload-there number least at octets left rest kind enough inside fits =
 
 module _ (store front later : List ℕ) (part : Part) (sound : Sound (length store) part) where
   abbrev file : List ℕ
-  file = front ++ (section part store ++ later)
+  file = front ++ (sectionOctets part store ++ later)
 
   abbrev payload : List ℕ
   payload = take (part .length) (drop (part .offset) store)
 
-  split : section part store ++ later ≡ digits 4 (part .length + 5) ++ (part .number ∷ (payload ++ later))
-  unfolding section
+  split : sectionOctets part store ++ later ≡ digits 4 (part .length + 5) ++ (part .number ∷ (payload ++ later))
+  unfolding sectionOctets
   split = simp append-assoc
 
   long : length file ≡ length front + (part .length + 5 + length later)
-  long = rw (length-append front (section part store ++ later), length-append (section part store) later, length-section store part sound)
+  long = rw (length-append front (sectionOctets part store ++ later), length-append (sectionOctets part store) later, length-section store part sound)
 
   number-there : getD file (length front + 4) 0 ≡ part .number
   number-there =
-      getD-append-add front (section part store ++ later) 4 0
+      getD-append-add front (sectionOctets part store ++ later) 4 0
       ∙ rw split (getD-at (digits 4 (part .length + 5)) (part .number) (payload ++ later) 0 4 (length-digits 4 (part .length + 5)))
 
   length-there : beAt file (length front) 4 ≡ part .length + 5
   length-there =
       let small = sound .not-long in
       let e : beAt file (length front + 0) 4 ≡ part .length + 5 =
-      be-behind front (section part store ++ later) 0 4
+      be-behind front (sectionOctets part store ++ later) 0 4
       ∙ rw split (be-digits 4 (part .length + 5) (part .number ∷ (payload ++ later)) (omega arith)) in
       rw add-zero at e
 
@@ -140,9 +140,9 @@ module _ (store front later : List ℕ) (part : Part) (sound : Sound (length sto
 
 -- the sections and section 8, behind any octets
 body-listed : (store front : List ℕ) (parts : List Part) → AllSound (length store) parts
-    → listingOn (front ++ body parts store) (length front) (sizeOf parts + 4)
+    → listingOn (front ++ bodyOctets parts store) (length front) (sectionsSize parts + 4)
     ≡ record { sections = toEnd (length front) parts; ending = over }
-unfolding body sizeOf toEnd
+unfolding bodyOctets sectionsSize toEnd
 body-listed store front [] none =
     let file = front ++ end in
     let long : length file ≡ length front + 4 = length-append front end in
@@ -153,17 +153,17 @@ body-listed store front [] none =
       over-there file (length front + 4) long,
     )
 body-listed store front (part ∷ more) (one head tail) =
-    let here = section part store in
-    let later = body more store in
+    let here = sectionOctets part store in
+    let later = bodyOctets more store in
     let file = front ++ (here ++ later) in
-    let rest = part .length + 5 + sizeOf more + 4 in
-    let left : rest - (part .length + 5) ≡ sizeOf more + 4 = omega arith in
+    let rest = part .length + 5 + sectionsSize more + 4 in
+    let left : rest - (part .length + 5) ≡ sectionsSize more + 4 = omega arith in
     let long : length (front ++ here) ≡ length front + (part .length + 5) =
     length-append front here ∙ rw (length-section store part head) in
-    let ih : listingOn ((front ++ here) ++ later) (length (front ++ here)) (sizeOf more + 4)
+    let ih : listingOn ((front ++ here) ++ later) (length (front ++ here)) (sectionsSize more + 4)
     ≡ record { sections = toEnd (length (front ++ here)) more; ending = over } =
     body-listed store (front ++ here) more tail in
-    let after : listingOn file (length front + (part .length + 5)) (sizeOf more + 4)
+    let after : listingOn file (length front + (part .length + 5)) (sectionsSize more + 4)
     ≡ record { sections = toEnd (length front + (part .length + 5)) more; ending = over } =
     rw (append-assoc front here later, long) at ih in
     rw (listing-next file (length front) rest, section-there store front later part head rest (omega arith), left, after)
@@ -177,49 +177,49 @@ starts-there file starts some =
 
 module _ (discipline reserved₁ reserved₂ total : ℕ) (later : List ℕ) where
   abbrev whole-file : List ℕ
-  whole-file = indicator discipline reserved₁ reserved₂ total ++ later
+  whole-file = indicatorOctets discipline reserved₁ reserved₂ total ++ later
 
   long-file : length whole-file ≡ 16 + length later
   long-file =
-      rw (length-append (indicator discipline reserved₁ reserved₂ total) later, length-indicator discipline reserved₁ reserved₂ total)
+      rw (length-append (indicatorOctets discipline reserved₁ reserved₂ total) later, length-indicator discipline reserved₁ reserved₂ total)
 
   grib : startsAt whole-file 0 ≡ true
-  unfolding startsAt says indicator
+  unfolding startsAt says indicatorOctets
   grib = let long = long-file in rw (le-leb (0 + 16) (length whole-file) (omega arith))
 
   sum-there : total < 256 ^ 8 → beAt whole-file 8 8 ≡ total
-  unfolding indicator
+  unfolding indicatorOctets
   sum-there small =
       be-behind (71 ∷ 82 ∷ 73 ∷ 66 ∷ reserved₁ ∷ reserved₂ ∷ discipline ∷ 2 ∷ []) (digits 8 total ++ later) 0 8
       ∙ be-digits 8 total later small
 
   indicator-there : total < 256 ^ 8 → 16 ≤ total → readAt whole-file 0 0 ≡ sectionAt 0 0 16 (total - 16)
-  unfolding readAt messageAt indicatorAt indicator
+  unfolding readAt messageAt indicatorAt indicatorOctets
   indicator-there small enough =
       let long = long-file in
       rw (starts-there whole-file grib (omega arith), sum-there small, le-ltb total 16 enough)
 
 -- the total length that section 0 alone says
 pub total-there : (discipline reserved₁ reserved₂ total : ℕ) → total < 256 ^ 8
-    → beAt (indicator discipline reserved₁ reserved₂ total) 8 8 ≡ total
+    → beAt (indicatorOctets discipline reserved₁ reserved₂ total) 8 8 ≡ total
 total-there discipline reserved₁ reserved₂ total small =
     rw append-nil at (sum-there discipline reserved₁ reserved₂ total [] small)
 
 -- the listing of a written message
 pub message-listed : (discipline reserved₁ reserved₂ : ℕ) (parts : List Part) (store : List ℕ) → AllSound (length store) parts
     → totalOf parts ≤ 1099511627776
-    → listing (message discipline reserved₁ reserved₂ parts store) ≡ record { sections = messageSections parts; ending = over }
-unfolding message
+    → listing (messageOctets discipline reserved₁ reserved₂ parts store) ≡ record { sections = messageSections parts; ending = over }
+unfolding messageOctets
 message-listed discipline reserved₁ reserved₂ parts store sound small =
-    let front = indicator discipline reserved₁ reserved₂ (totalOf parts) in
-    let file = front ++ body parts store in
-    let left : totalOf parts - 16 ≡ sizeOf parts + 4 = omega arith in
-    let after : listingOn file 16 (sizeOf parts + 4) ≡ record { sections = toEnd 16 parts; ending = over } =
+    let front = indicatorOctets discipline reserved₁ reserved₂ (totalOf parts) in
+    let file = front ++ bodyOctets parts store in
+    let left : totalOf parts - 16 ≡ sectionsSize parts + 4 = omega arith in
+    let after : listingOn file 16 (sectionsSize parts + 4) ≡ record { sections = toEnd 16 parts; ending = over } =
     rw (length-indicator discipline reserved₁ reserved₂ (totalOf parts)) at (body-listed store front parts sound) in
     listing-is file
     ∙ rw (
       listing-next file 0 0,
-      indicator-there discipline reserved₁ reserved₂ (totalOf parts) (body parts store) (omega arith) (omega arith),
+      indicator-there discipline reserved₁ reserved₂ (totalOf parts) (bodyOctets parts store) (omega arith) (omega arith),
       left,
       after,
       to-end 16 parts,

@@ -1,5 +1,5 @@
 -- A plan is one message exactly when the order of a whole list of numbers finds 0, the plan's and 8 clean, and no 8 stands in the plan
--- itself: with one, the list could be two messages. Assumes nothing.
+-- itself: with one, the list could be two messages.
 use Prim.Native.Nat.{ℕ, zero, suc, _+_}
 use native.Mathlib.Omega.{arith}
 use mathlib.Core.Path.{_≡_, refl, _∙_}
@@ -13,7 +13,7 @@ use Rattle.order.specs.declared.Verdict.the-variants.{Clean}
 use Rattle.order.proofs.Laws.{fits-below, closes-only}
 use Rattle.writer.specs.Plan.{Part}
 use Rattle.round_trip.specs.ReadBack.{numbersOf}
-use Rattle.round_trip.specs.Faults.{Iff, Nowhere, Reaches, arrived, on, EndsAfter, OneMessage}
+use Rattle.round_trip.specs.Faults.{Iff, AtNone, Reaches, arrived, on, EndsAfter, OneMessage}
 
 -- a section 8 in a plan
 abbrev pub IsEnd : Part → Type 0
@@ -26,12 +26,12 @@ unfolding orderFrom isBetween
 clean order last from [] arrived closed = rw closed
 clean order last from (part ∷ more) (on {next} fits rest) closed = rw fits (clean next last (from + 1) more rest closed)
 
-no-end : {order last : Order} (parts : List Part) → Reaches order parts last → Nowhere IsEnd parts
+no-end : {order last : Order} (parts : List Part) → Reaches order parts last → AtNone IsEnd parts
 no-end [] arrived k inside end = omega arith
 no-end (part ∷ more) (on {order} fits rest) zero inside end = let below = fits-below order (part .number) fits in omega arith
 no-end (part ∷ more) (on fits rest) (suc k) inside end = no-end more rest k (omega arith) end
 
-ends : (order : Order) (from : ℕ) (parts : List Part) → Nowhere IsEnd parts → orderFrom order from (numbersOf parts ++ (8 ∷ [])) ≡ Clean
+ends : (order : Order) (from : ℕ) (parts : List Part) → AtNone IsEnd parts → orderFrom order from (numbersOf parts ++ (8 ∷ [])) ≡ Clean
     → EndsAfter order parts
 unfolding orderFrom
 ends order from [] none e = go (judged order 8) refl e
@@ -59,7 +59,7 @@ unfolding orderOf orderFrom judged
 from-0 parts = refl
 
 pub one-message : (parts : List Part)
-    → Iff (OneMessage parts) ((orderOf (0 ∷ (numbersOf parts ++ (8 ∷ []))) ≡ Clean) × Nowhere IsEnd parts)
+    → Iff (OneMessage parts) ((orderOf (0 ∷ (numbersOf parts ++ (8 ∷ []))) ≡ Clean) × AtNone IsEnd parts)
 one-message parts = (
   (λ m. (from-0 parts ∙ clean AfterIndicator (m .last) 1 parts (m .ordered) (m .closed), no-end parts (m .ordered))),
   λ h. ends AfterIndicator 1 parts (h .1) (rw (from-0 parts) at (h .0)),

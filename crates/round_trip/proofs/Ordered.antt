@@ -1,4 +1,4 @@
--- 16: the check finds the first misfit, and none where the plan is one message. Assumes nothing.
+-- 16: the check finds the first misfit, and none where the plan is one message.
 use Prim.Native.Nat.{ℕ, zero, suc, _+_}
 use native.Mathlib.Omega.{arith}
 use native.Mathlib.Nat.{add-zero}
@@ -12,10 +12,7 @@ use Rattle.order.specs.declared.Order.the-variants.{AfterIndicator}
 use Rattle.order.specs.declared.Judged.{Judged}
 use Rattle.order.specs.declared.Judged.the-variants.{Fits, Closes, Misplaced, NoGrid}
 use Rattle.order.proofs.Laws.{fits-below, fits-open, closes-only}
-use Rattle.index.specs.Lines.{place}
-use Rattle.writer.specs.Plan.{Part, orAt, closedAt, misfitFrom, misfit}
-use Rattle.writer.specs.declared.Check.{Check}
-use Rattle.writer.specs.declared.Check.the-variants.{Passed, At}
+use Rattle.writer.specs.Plan.{Part, Finding, noFault, faultAt, planPlace, orAt, closedAt, misfitFrom, misfit}
 use Rattle.writer.proofs.Checks.{not-passed, same-place, misfit-on, misfit-passed, misfit-closed, fits-from-1}
 use Rattle.round_trip.specs.Faults.{Iff, CantCome, Reaches, arrived, on, EndsAfter, OneMessage, Misfits, MisfitAfter, FirstMisfit}
 
@@ -41,20 +38,20 @@ never-fits order number within fits =
     (λ e. let z : _≡_ {A = ℕ} 0 1 = cc in omega arith)))
 
 -- a number that misfits is named
-or-at : (order : Order) (number from : ℕ) (later : Order → Check) → isBetween order ≡ false → Misfits order number
-    → orAt (judged order number) from later ≡ At (place from)
+or-at : (order : Order) (number from : ℕ) (later : Order → Finding) → isBetween order ≡ false → Misfits order number
+    → orAt (judged order number) from later ≡ faultAt (planPlace from)
 or-at order number from later within misfits = go (judged order number) refl
   where
-    go : (w : Judged) → judged order number ≡ w → orAt w from later ≡ At (place from)
+    go : (w : Judged) → judged order number ≡ w → orAt w from later ≡ faultAt (planPlace from)
     go (Fits next) e = absurd (never-fits order number within e misfits)
     go Closes e = refl
     go Misplaced e = refl
     go NoGrid e = refl
 
-closed-at : (order : Order) (from : ℕ) → CantCome order 8 → closedAt (judged order 8) from ≡ At (place from)
+closed-at : (order : Order) (from : ℕ) → CantCome order 8 → closedAt (judged order 8) from ≡ faultAt (planPlace from)
 closed-at order from cant = go (judged order 8) refl
   where
-    go : (w : Judged) → judged order 8 ≡ w → closedAt w from ≡ At (place from)
+    go : (w : Judged) → judged order 8 ≡ w → closedAt w from ≡ faultAt (planPlace from)
     go (Fits next) e = refl
     go Closes e =
         absurd
@@ -66,7 +63,7 @@ closed-at order from cant = go (judged order 8) refl
     go NoGrid e = refl
 
 -- the place named is the first misfit
-misfit-is : (order : Order) (from at : ℕ) (parts : List Part) → isBetween order ≡ false → misfitFrom order from parts ≡ At (place at)
+misfit-is : (order : Order) (from at : ℕ) (parts : List Part) → isBetween order ≡ false → misfitFrom order from parts ≡ faultAt (planPlace at)
     → (j : ℕ) × (at ≡ from + j) × MisfitAfter order parts j
 unfolding misfitFrom
 misfit-is order from at [] within e = go (judged order 8) refl e
@@ -78,7 +75,7 @@ misfit-is order from at [] within e = go (judged order 8) refl e
       record { inside = omega arith; last = order; before = arrived; number = λ some. absurd (omega arith); only-8 = λ all. cant },
     )
 
-    go : (w : Judged) → judged order 8 ≡ w → closedAt w from ≡ At (place at) → (j : ℕ) × (at ≡ from + j) × MisfitAfter order [] j
+    go : (w : Judged) → judged order 8 ≡ w → closedAt w from ≡ faultAt (planPlace at) → (j : ℕ) × (at ≡ from + j) × MisfitAfter order [] j
     go (Fits next) w e = absurd (let below = fits-below order 8 w in omega arith)
     go Closes w e = absurd (let z : _≡_ {A = ℕ} 0 1 = cc in omega arith)
     go Misplaced w e = found (same-place e) (inl w)
@@ -93,8 +90,8 @@ misfit-is order from at (part ∷ more) within e =
       record { inside = omega arith; last = order; before = arrived; number = λ some. misfits; only-8 = λ all. absurd (omega arith) },
     )
 
-    go : (w : Judged) → judged order (part .number) ≡ w → orAt w from (λ next. misfitFrom next (from + 1) more) ≡ At (place at)
-        → ((next : Order) → isBetween next ≡ false → misfitFrom next (from + 1) more ≡ At (place at)
+    go : (w : Judged) → judged order (part .number) ≡ w → orAt w from (λ next. misfitFrom next (from + 1) more) ≡ faultAt (planPlace at)
+        → ((next : Order) → isBetween next ≡ false → misfitFrom next (from + 1) more ≡ faultAt (planPlace at)
         → (j : ℕ) × (at ≡ from + 1 + j) × MisfitAfter next more j)
         → (j : ℕ) × (at ≡ from + j) × MisfitAfter order (part ∷ more) j
     go (Fits next) w e ih =
@@ -120,7 +117,7 @@ misfit-is order from at (part ∷ more) within e =
 
 -- the first misfit is the place named
 is-misfit : (order : Order) (from j : ℕ) (parts : List Part) → isBetween order ≡ false → MisfitAfter order parts j
-    → misfitFrom order from parts ≡ At (place (from + j))
+    → misfitFrom order from parts ≡ faultAt (planPlace (from + j))
 unfolding misfitFrom
 is-misfit order from zero [] within m =
     let here = reaches-here (m .before) in
@@ -142,17 +139,17 @@ is-misfit order from (suc j) (part ∷ more) within m =
       only-8 = λ all. m .only-8 (omega arith);
     } in
     misfit-on order from part more (step .1)
-    ∙ (is-misfit (step .0) (from + 1) j more (fits-open order (part .number) (step .1)) later ∙ ap (λ (n : ℕ). At (place n)) sum)
+    ∙ (is-misfit (step .0) (from + 1) j more (fits-open order (part .number) (step .1)) later ∙ ap (λ (n : ℕ). faultAt (planPlace n)) sum)
 
 -- a plan that passes ends the message
-passed-ends : (order : Order) (from : ℕ) (parts : List Part) → misfitFrom order from parts ≡ Passed → EndsAfter order parts
+passed-ends : (order : Order) (from : ℕ) (parts : List Part) → misfitFrom order from parts ≡ noFault → EndsAfter order parts
 passed-ends order from [] e = record { last = order; ordered = arrived; closed = misfit-closed order from e }
 passed-ends order from (part ∷ more) e =
     let step = misfit-passed order from part more e in
     let m = passed-ends (step .0) (from + 1) more (step .2) in
     record { last = m .last; ordered = on (step .1) (m .ordered); closed = m .closed }
 
-ends-passed : (order : Order) (from : ℕ) (parts : List Part) → EndsAfter order parts → misfitFrom order from parts ≡ Passed
+ends-passed : (order : Order) (from : ℕ) (parts : List Part) → EndsAfter order parts → misfitFrom order from parts ≡ noFault
 unfolding misfitFrom
 ends-passed order from [] m = let here = reaches-here (m .ordered) in rw (here, m .closed)
 ends-passed order from (part ∷ more) m =
@@ -160,17 +157,17 @@ ends-passed order from (part ∷ more) m =
     misfit-on order from part more (step .1)
     ∙ ends-passed (step .0) (from + 1) more (record { last = m .last; ordered = step .2; closed = m .closed })
 
-pub misfit-iff : (at : ℕ) (parts : List Part) → Iff (misfit parts ≡ At (place at)) (FirstMisfit parts at)
+pub misfit-iff : (at : ℕ) (parts : List Part) → Iff (misfit parts ≡ faultAt (planPlace at)) (FirstMisfit parts at)
 unfolding isBetween
 misfit-iff at parts = (
   (λ e.
       let r = misfit-is AfterIndicator 0 at parts refl e in
       let same : r .0 ≡ at = let sum = r .1 in omega arith in
       subst (FirstMisfit parts) same (r .2)),
-  λ m. is-misfit AfterIndicator 0 at parts refl m ∙ ap (λ (n : ℕ). At (place n)) (let sum : 0 + at ≡ at = omega arith in sum),
+  λ m. is-misfit AfterIndicator 0 at parts refl m ∙ ap (λ (n : ℕ). faultAt (planPlace n)) (let sum : 0 + at ≡ at = omega arith in sum),
 )
 
-pub message-iff : (parts : List Part) → Iff (misfit parts ≡ Passed) (OneMessage parts)
+pub message-iff : (parts : List Part) → Iff (misfit parts ≡ noFault) (OneMessage parts)
 message-iff parts = (passed-ends AfterIndicator 0 parts, ends-passed AfterIndicator 0 parts)
 
 -- there is a first misfit exactly where the plan is not one message
@@ -180,6 +177,6 @@ not-one-iff parts = (
   λ none. go none (misfit parts) refl,
 )
   where
-    go : (OneMessage parts → ⊥) → (c : Check) → misfit parts ≡ c → (at : ℕ) × FirstMisfit parts at
-    go none Passed e = absurd (none (message-iff parts .0 e))
-    go none (At at) e = (at .0, misfit-iff (at .0) parts .0 e)
+    go : (OneMessage parts → ⊥) → (c : Finding) → misfit parts ≡ c → (at : ℕ) × FirstMisfit parts at
+    go none noFault e = absurd (none (message-iff parts .0 e))
+    go none (faultAt at) e = (at .0, misfit-iff (at .0) parts .0 e)

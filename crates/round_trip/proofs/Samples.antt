@@ -1,13 +1,12 @@
--- The sample A of 01 by a plan, and a plan for each refusal, by computing. Assumes nothing.
+-- The sample A of 01 by a plan, and a plan for each refusal, by computing.
 use Prim.Native.Nat.{ℕ, _+_}
 use mathlib.Core.Path.{_≡_, refl}
 use mathlib.Core.List.{List, [], _∷_, _++_}
 use lib.ListN.{replicate}
 use Rattle.sections.specs.Kinds.{leastPayloadOf, kindOf, kinds}
 use Rattle.order.specs.Order.{judged}
-use Rattle.index.specs.Lines.{place}
-use Rattle.writer.specs.Plan.{partsOf, misfitFrom, firstAt, isOutside, isWrongSize, sizeOf, judgedPlan}
-use Rattle.writer.specs.Message.{digits, indicator, section, body, message}
+use Rattle.writer.specs.Plan.{planPlace, partsOf, misfitFrom, firstAt, isOutside, isWrongSize, sectionsSize, judgedPlan}
+use Rattle.writer.specs.Message.{digits, indicatorOctets, sectionOctets, bodyOctets, messageOctets}
 use Rattle.writer.specs.declared.Written.{Written}
 use Rattle.writer.specs.declared.Written.the-variants.{Whole, TooManySections, NotOneMessage, OutsideStore, PayloadSize, NoRoom}
 
@@ -24,8 +23,8 @@ fileA =
 abbrev planA : List ℕ
 planA = 1 ∷ 0 ∷ 16 ∷ 3 ∷ 0 ∷ 9 ∷ 4 ∷ 1 ∷ 4 ∷ 5 ∷ 2 ∷ 6 ∷ 6 ∷ 15 ∷ 1 ∷ 7 ∷ 16 ∷ 0 ∷ 7 ∷ 8 ∷ []
 
-pub a-written : message 0 255 255 (partsOf planA) (replicate 16 9) ≡ fileA
-unfolding message indicator body section digits partsOf sizeOf
+pub a-written : messageOctets 0 255 255 (partsOf planA) (replicate 16 9) ≡ fileA
+unfolding messageOctets indicatorOctets bodyOctets sectionOctets digits partsOf sectionsSize
 a-written = refl
 
 -- what is said of a plan with a store of 16 octets and a destination of so many
@@ -34,12 +33,12 @@ said plan room = judgedPlan (partsOf plan) 16 room
 
 pub answers : (said planA 86 ≡ Whole 86) × (said planA 85 ≡ NoRoom)
     -- no section at all; a 4 after 1; the end after 3; an 8
-    × (said [] 86 ≡ NotOneMessage (place 0)) × (said (1 ∷ 0 ∷ 16 ∷ 4 ∷ 0 ∷ 4 ∷ []) 86 ≡ NotOneMessage (place 1))
-    × (said (1 ∷ 0 ∷ 16 ∷ 3 ∷ 0 ∷ 9 ∷ []) 86 ≡ NotOneMessage (place 2)) × (said (8 ∷ 0 ∷ 16 ∷ []) 86 ≡ NotOneMessage (place 0))
+    × (said [] 86 ≡ NotOneMessage (planPlace 0)) × (said (1 ∷ 0 ∷ 16 ∷ 4 ∷ 0 ∷ 4 ∷ []) 86 ≡ NotOneMessage (planPlace 1))
+    × (said (1 ∷ 0 ∷ 16 ∷ 3 ∷ 0 ∷ 9 ∷ []) 86 ≡ NotOneMessage (planPlace 2)) × (said (8 ∷ 0 ∷ 16 ∷ []) 86 ≡ NotOneMessage (planPlace 0))
     -- a part outside at place 1 before a payload too short at place 0, and that alone
-    × (said (1 ∷ 0 ∷ 15 ∷ 3 ∷ 8 ∷ 9 ∷ 4 ∷ 1 ∷ 4 ∷ 5 ∷ 2 ∷ 6 ∷ 6 ∷ 15 ∷ 1 ∷ 7 ∷ 16 ∷ 0 ∷ []) 0 ≡ OutsideStore (place 1))
-    × (said (1 ∷ 0 ∷ 15 ∷ 3 ∷ 7 ∷ 9 ∷ 4 ∷ 1 ∷ 4 ∷ 5 ∷ 2 ∷ 6 ∷ 6 ∷ 15 ∷ 1 ∷ 7 ∷ 16 ∷ 0 ∷ []) 0 ≡ PayloadSize (place 0))
+    × (said (1 ∷ 0 ∷ 15 ∷ 3 ∷ 8 ∷ 9 ∷ 4 ∷ 1 ∷ 4 ∷ 5 ∷ 2 ∷ 6 ∷ 6 ∷ 15 ∷ 1 ∷ 7 ∷ 16 ∷ 0 ∷ []) 0 ≡ OutsideStore (planPlace 1))
+    × (said (1 ∷ 0 ∷ 15 ∷ 3 ∷ 7 ∷ 9 ∷ 4 ∷ 1 ∷ 4 ∷ 5 ∷ 2 ∷ 6 ∷ 6 ∷ 15 ∷ 1 ∷ 7 ∷ 16 ∷ 0 ∷ []) 0 ≡ PayloadSize (planPlace 0))
     -- 4,097 sections, whatever they are
     × (said (replicate 12291 9) 86 ≡ TooManySections)
-unfolding judgedPlan misfitFrom firstAt isOutside isWrongSize judged leastPayloadOf kindOf kinds partsOf sizeOf
+unfolding judgedPlan misfitFrom firstAt isOutside isWrongSize judged leastPayloadOf kindOf kinds partsOf sectionsSize
 answers = (refl, refl, refl, refl, refl, refl, refl, refl, refl)

@@ -1,4 +1,4 @@
--- The walk of a written message's sections is clean, with one message. Assumes nothing.
+-- The walk of a written message's sections is clean, with one message.
 use Prim.Native.Nat.{ℕ, _+_, _≤_, _<_}
 use native.Mathlib.Omega.{arith}
 use native.Mathlib.Nat.{zero-add}
@@ -31,10 +31,9 @@ use Rattle.index.specs.Lines.{place, inForce, withSubmessage, lineOf}
 use Rattle.index.specs.declared.line.Line.{Line}
 use Rattle.index.specs.declared.bounds.Room.{Room}
 use Rattle.index.specs.Walk.{Reached, atStart, passes, here, fitted, closing, byOrder, judgement, concluded, walkedFrom}
-use Rattle.writer.specs.Plan.{Part, misfitFrom, misfit}
-use Rattle.writer.specs.declared.Check.the-variants.{Passed}
+use Rattle.writer.specs.Plan.{Part, noFault, misfitFrom, misfit}
 use Rattle.writer.proofs.Checks.{misfit-passed, misfit-closed}
-use Rattle.round_trip.specs.ReadBack.{row, linesIn, Clean}
+use Rattle.round_trip.specs.ReadBack.{row, linesIn, WalksClean}
 use Rattle.round_trip.proofs.Listed.{toEnd}
 
 -- a line is due after a section 7
@@ -138,7 +137,7 @@ goes room r s next fits rows lines = go (completes (r .order) (s .number)) refl
 
 -- before a clean rest
 clean-more : (room : Room) (r : Reached) (s : Section) (more : List Section) (order : Order) (d n : ℕ) (g : Goes room r s order d)
-    → Clean (walkedFrom room (g .next) more over) more n → Clean (walkedFrom room r (s ∷ more) over) (s ∷ more) (d + n)
+    → WalksClean (walkedFrom room (g .next) more over) more n → WalksClean (walkedFrom room r (s ∷ more) over) (s ∷ more) (d + n)
 unfolding walkedFrom
 clean-more room r s more order d n g c =
     let rest = walkedFrom room (g .next) more over in
@@ -152,7 +151,7 @@ clean-more room r s more order d n g c =
 
 -- section 8 closes
 clean-close : (room : Room) (r : Reached) (at : ℕ) → r .order ≡ AfterData → r .sections < room .rows → r .lines < room .lines
-    → Clean (walkedFrom room r (row 8 at 4 ∷ []) over) (row 8 at 4 ∷ []) 1
+    → WalksClean (walkedFrom room r (row 8 at 4 ∷ []) over) (row 8 at 4 ∷ []) 1
 unfolding walkedFrom judgement completes judged byOrder closing concluded isBetween
 clean-close room r at e rows lines =
     rw (e, lt-leb (room .rows) (r .sections) rows, lt-leb (room .lines) (r .lines) lines)
@@ -163,9 +162,9 @@ unfolding due
 due-data = refl
 
 -- the sections of a plan that is in order, from anywhere inside a message
-clean-from : (room : Room) (r : Reached) (from at : ℕ) (parts : List Part) → misfitFrom (r .order) from parts ≡ Passed
+clean-from : (room : Room) (r : Reached) (from at : ℕ) (parts : List Part) → misfitFrom (r .order) from parts ≡ noFault
     → r .sections + (1 + length parts) ≤ room .rows → r .lines + (due (r .order) + linesIn parts) ≤ room .lines
-    → Clean (walkedFrom room r (toEnd at parts) over) (toEnd at parts) (due (r .order) + linesIn parts)
+    → WalksClean (walkedFrom room r (toEnd at parts) over) (toEnd at parts) (due (r .order) + linesIn parts)
 unfolding toEnd linesIn
 clean-from room r from at [] passed rows lines =
     let after = closes-only (r .order) 8 (misfit-closed (r .order) from passed) .0 in
@@ -180,16 +179,16 @@ clean-from room r from at (part ∷ more) passed rows lines =
     let reached = g .reached in
     let after : due (g .next .order) ≡ pick (eqb (part .number) 7) 1 0 =
     ap due reached ∙ due-after (step .0) (part .number) (fits-number (r .order) (part .number) (step .1)) in
-    let rest : Clean (walkedFrom room (g .next) (toEnd (at + (part .length + 5)) more) over) (toEnd (at + (part .length + 5)) more)
+    let rest : WalksClean (walkedFrom room (g .next) (toEnd (at + (part .length + 5)) more) over) (toEnd (at + (part .length + 5)) more)
     (due (g .next .order) + linesIn more) =
     clean-from room (g .next) (from + 1) (at + (part .length + 5)) more (rw reached (step .2)) (omega arith) (omega arith) in
     let later = toEnd (at + (part .length + 5)) more in
     clean-more room r s later (step .0) (due (r .order)) (pick (eqb (part .number) 7) 1 0 + linesIn more) g
-    (subst (λ (n : ℕ). Clean (walkedFrom room (g .next) later over) later (n + linesIn more)) after rest)
+    (subst (λ (n : ℕ). WalksClean (walkedFrom room (g .next) later over) later (n + linesIn more)) after rest)
 
 -- a message from its section 0 on
-pub clean-message : (room : Room) (parts : List Part) → misfit parts ≡ Passed → 2 + length parts ≤ room .rows → linesIn parts ≤ room .lines
-    → Clean (walkedFrom room atStart (row 0 0 16 ∷ toEnd 16 parts) over) (row 0 0 16 ∷ toEnd 16 parts) (linesIn parts)
+pub clean-message : (room : Room) (parts : List Part) → misfit parts ≡ noFault → 2 + length parts ≤ room .rows → linesIn parts ≤ room .lines
+    → WalksClean (walkedFrom room atStart (row 0 0 16 ∷ toEnd 16 parts) over) (row 0 0 16 ∷ toEnd 16 parts) (linesIn parts)
 unfolding due judged
 clean-message room parts passed rows lines =
     let g : Goes room atStart (row 0 0 16) AfterIndicator 0 =
@@ -198,9 +197,9 @@ clean-message room parts passed rows lines =
     let count = g .count in
     let reached = g .reached in
     let none : due (g .next .order) ≡ 0 = ap due reached in
-    let rest : Clean (walkedFrom room (g .next) (toEnd 16 parts) over) (toEnd 16 parts) (due (g .next .order) + linesIn parts) =
+    let rest : WalksClean (walkedFrom room (g .next) (toEnd 16 parts) over) (toEnd 16 parts) (due (g .next .order) + linesIn parts) =
     clean-from room (g .next) 0 16 parts (rw reached passed) (omega arith) (omega arith) in
-    let lines-0 : Clean (walkedFrom room (g .next) (toEnd 16 parts) over) (toEnd 16 parts) (0 + linesIn parts) =
-    subst (λ (n : ℕ). Clean (walkedFrom room (g .next) (toEnd 16 parts) over) (toEnd 16 parts) (n + linesIn parts)) none rest in
+    let lines-0 : WalksClean (walkedFrom room (g .next) (toEnd 16 parts) over) (toEnd 16 parts) (0 + linesIn parts) =
+    subst (λ (n : ℕ). WalksClean (walkedFrom room (g .next) (toEnd 16 parts) over) (toEnd 16 parts) (n + linesIn parts)) none rest in
     rw (zero-add (0 + linesIn parts), zero-add (linesIn parts))
     at (clean-more room atStart (row 0 0 16) (toEnd 16 parts) AfterIndicator 0 (0 + linesIn parts) g lines-0)

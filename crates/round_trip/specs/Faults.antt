@@ -1,4 +1,4 @@
--- What is at fault in a plan, in the words of 01's column "Given exactly when" (refusals 15 to 19). Assumes nothing.
+-- What is at fault in a plan, in the words of 01's column "Given exactly when" (refusals 15 to 19).
 use Prim.Native.Nat.{ℕ, _+_, _≤_, _<_}
 use mathlib.Core.Path.{_≡_}
 use mathlib.Core.List.{List, [], _∷_}
@@ -11,9 +11,16 @@ use Rattle.order.specs.declared.Order.{Order}
 use Rattle.order.specs.declared.Order.the-variants.{AfterIndicator}
 use Rattle.order.specs.declared.Judged.the-variants.{Fits, Closes, Misplaced, NoGrid}
 use Rattle.index.specs.Bounds.{mostOctets}
-use Rattle.writer.specs.Plan.{Part, totalOf}
+use Rattle.writer.specs.Plan.{Part, mostSections, mostPayload, totalOf}
 use Rattle.writer.specs.declared.Written.{Written}
-use Rattle.writer.specs.declared.Written.the-variants.{Whole, TooManySections, NotOneMessage, OutsideStore, PayloadSize, NoRoom}
+use Rattle.writer.specs.declared.Written.the-variants.{
+  Whole,
+  TooManySections,
+  NotOneMessage,
+  OutsideStore,
+  PayloadSize,
+  NoRoom,
+}
 
 abbrev pub Iff : Type 0 → Type 0 → Type 0
 Iff A B = (A → B) × (B → A)
@@ -23,14 +30,14 @@ abbrev pub partAt : List Part → ℕ → Part
 partAt parts k = getD parts k (record { number = 0; offset = 0; length = 0 })
 
 -- the first place of a plan at which something is the case
-pub record First (Faulty : Part → Type 0) (parts : List Part) (at : ℕ) : Type 0 where
+pub record FirstAt (Faulty : Part → Type 0) (parts : List Part) (at : ℕ) : Type 0 where
   pub inside : at < length parts
   pub fault : Faulty (partAt parts at)
   pub before : (k : ℕ) → k < at → Faulty (partAt parts k) → ⊥
 
--- it is the case nowhere
-abbrev pub Nowhere : (Part → Type 0) → List Part → Type 0
-Nowhere Faulty parts = (k : ℕ) → k < length parts → Faulty (partAt parts k) → ⊥
+-- it is the case at no place
+abbrev pub AtNone : (Part → Type 0) → List Part → Type 0
+AtNone Faulty parts = (k : ℕ) → k < length parts → Faulty (partAt parts k) → ⊥
 
 -- a number can't come next
 abbrev pub CantCome : Order → ℕ → Type 0
@@ -39,7 +46,8 @@ CantCome order number = (judged order number ≡ Misplaced) ⊎ (judged order nu
 -- these sections can come one after the other, and this is then what was read last
 pub data Reaches : Order → List Part → Order → Type 0 where
   arrived : {order : Order} → Reaches order [] order
-  on : {order next last : Order} {part : Part} {more : List Part} → judged order (part .number) ≡ Fits next → Reaches next more last
+  on : {order next last : Order} {part : Part} {more : List Part}
+      → judged order (part .number) ≡ Fits next → Reaches next more last
       → Reaches order (part ∷ more) last
 
 -- after what was read last, the numbers and an 8 end the message
@@ -56,7 +64,8 @@ OneMessage parts = EndsAfter AfterIndicator parts
 abbrev pub Misfits : Order → ℕ → Type 0
 Misfits order number = (number < 1) ⊎ ((7 < number) ⊎ CantCome order number)
 
--- the first place, after what was read last, whose number misfits; the plan's length if only the 8 does
+-- the first place, after what was read last, whose number misfits; the plan's length if only the 8
+-- does
 pub record MisfitAfter (order : Order) (parts : List Part) (at : ℕ) : Type 0 where
   pub inside : at ≤ length parts
   pub last : Order
@@ -73,28 +82,34 @@ abbrev pub Outside : ℕ → Part → Type 0
 Outside store part = store < part .offset + part .length
 
 -- 18: a payload under its least
-pub record UnderLeast (part : Part) : Type 0 where
+pub record UnderItsLeast (part : Part) : Type 0 where
   pub least : ℕ
   pub of-kind : leastPayloadOf (part .number) ≡ Octets least
   pub under : part .length < least
 
--- or over 4,294,967,290
+-- or over the most that a payload may have
 abbrev pub WrongSize : Part → Type 0
-WrongSize part = UnderLeast part ⊎ (4294967290 < part .length)
+WrongSize part = UnderItsLeast part ⊎ (mostPayload < part .length)
 
 -- 19: the destination is shorter than the message, or the message over 2^40 octets
 abbrev pub TooLarge : List Part → ℕ → Type 0
 TooLarge parts room = (room < totalOf parts) ⊎ (mostOctets < totalOf parts)
 
--- 01's column "Given exactly when", of a plan with a store and a destination of so many octets: a check is made where all before it passed
+-- 01's column "Given exactly when", of a plan with a store and a destination of so many octets: a
+-- check is made where all before it passed
 abbrev pub GivenWhen : List Part → ℕ → ℕ → Written → Type 0
-GivenWhen parts store room TooManySections = 4096 < length parts
-GivenWhen parts store room (NotOneMessage at) = (length parts ≤ 4096) × FirstMisfit parts (at .0)
-GivenWhen parts store room (OutsideStore at) = (length parts ≤ 4096) × OneMessage parts × First (Outside store) parts (at .0)
+GivenWhen parts store room TooManySections = mostSections < length parts
+GivenWhen parts store room (NotOneMessage at) =
+    (length parts ≤ mostSections) × FirstMisfit parts (at .0)
+GivenWhen parts store room (OutsideStore at) =
+    (length parts ≤ mostSections) × OneMessage parts × FirstAt (Outside store) parts (at .0)
 GivenWhen parts store room (PayloadSize at) =
-    (length parts ≤ 4096) × OneMessage parts × Nowhere (Outside store) parts × First WrongSize parts (at .0)
+    (length parts ≤ mostSections) × OneMessage parts × AtNone (Outside store) parts
+    × FirstAt WrongSize parts (at .0)
 GivenWhen parts store room NoRoom =
-    (length parts ≤ 4096) × OneMessage parts × Nowhere (Outside store) parts × Nowhere WrongSize parts × TooLarge parts room
+    (length parts ≤ mostSections) × OneMessage parts × AtNone (Outside store) parts
+    × AtNone WrongSize parts × TooLarge parts room
 GivenWhen parts store room (Whole total) =
-    (length parts ≤ 4096) × OneMessage parts × Nowhere (Outside store) parts × Nowhere WrongSize parts × (totalOf parts ≤ room)
-    × (totalOf parts ≤ mostOctets) × (total ≡ totalOf parts)
+    (length parts ≤ mostSections) × OneMessage parts × AtNone (Outside store) parts
+    × AtNone WrongSize parts × (totalOf parts ≤ room) × (totalOf parts ≤ mostOctets)
+    × (total ≡ totalOf parts)

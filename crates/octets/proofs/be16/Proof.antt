@@ -1,4 +1,4 @@
--- `octets::be16` meets its contract: it is the number of 2 octets. Assumes nothing.
+-- `octets::be16` meets its contract: it is the number of 2 octets.
 use mathlib.Core.Path.{ap, _∙_}
 use native.Mathlib.Omega.{arith}
 use borrow.Author.Needs.{needs}

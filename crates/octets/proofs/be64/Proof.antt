@@ -1,4 +1,4 @@
--- `octets::be64` meets its contract: it is the number of 8 octets. Assumes nothing.
+-- `octets::be64` meets its contract: it is the number of 8 octets.
 use mathlib.Core.Path.{ap, _∙_}
 use native.Mathlib.Omega.{arith}
 use borrow.Author.Needs.{needs}

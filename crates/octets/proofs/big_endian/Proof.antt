@@ -1,4 +1,4 @@
--- `octets::big_endian` meets its contract. The invariant: the sum is the number of the octets passed. Assumes nothing.
+-- `octets::big_endian` meets its contract. The invariant: the sum is the number of the octets passed.
 use mathlib.Core.Path.{_≡_, refl, ap, sym, _∙_}
 use Prim.Native.Nat.{ℕ, _≤_, _-_, _+_, _*_}
 use mathlib.Core.List.{List}

@@ -1,4 +1,4 @@
--- `octets::minus` meets its contract: the negative of a size fits an `i32`. Assumes nothing.
+-- `octets::minus` meets its contract: the negative of a size fits an `i32`.
 use mathlib.Core.Path.{_≡_, refl, ap, sym, subst, _∙_}
 use Prim.Native.Nat.{ℕ, zero, suc, _^_, _<_}
 use native.Mathlib.Omega.{arith}

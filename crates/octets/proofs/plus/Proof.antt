@@ -1,4 +1,4 @@
--- `octets::plus` meets its contract: a size fits the positive half of an `i32`. Assumes nothing.
+-- `octets::plus` meets its contract: a size fits the positive half of an `i32`.
 use borrow.Author.Needs.{needs}
 use mir.Facts.{toZ-pos}
 use mir.Syntax.{w32}

@@ -1,5 +1,4 @@
 -- `octets::sign_and_size` meets its contract: at each `return` the tests that led there say which case of `signedOf` holds.
--- Assumes nothing.
 use mathlib.Core.Path.{_≡_, ap, _∙_}
 use Prim.Native.Nat.{ℕ, _-_, _*_, _%_, _^_, _<_, _≤_}
 use native.Mathlib.Nat.{mod-lt}

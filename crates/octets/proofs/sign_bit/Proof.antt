@@ -1,4 +1,4 @@
--- `octets::sign_bit` meets its contract, length by length. Assumes nothing.
+-- `octets::sign_bit` meets its contract, length by length.
 use mathlib.Core.Path.{_≡_}
 use native.Mathlib.Omega.{arith}
 use Rattle.octets.proofs.sign_bit.Statement.{statement}

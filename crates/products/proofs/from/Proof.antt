@@ -1,4 +1,4 @@
--- `from` meets its contract: a part that runs to the end is what `drop` leaves. Assumes nothing.
+-- `from` meets its contract: a part that runs to the end is what `drop` leaves.
 use mathlib.Core.Path.{_≡_, refl}
 use mathlib.Core.List.{List}
 use Prim.Native.Nat.{ℕ, _-_, _<_, _≤_}

@@ -1,4 +1,4 @@
--- `octet_of` meets its contract: there is an octet or not. Assumes nothing.
+-- `octet_of` meets its contract: there is an octet or not.
 use borrow.Author.Tests.{lt-ltb, le-ltb}
 use Rattle.products.specs.Products.{octetOf}
 use borrow.Author.Needs.{needs}

@@ -1,4 +1,4 @@
--- `surface_of` meets its contract, by the cases of its two numbers. Assumes nothing.
+-- `surface_of` meets its contract, by the cases of its two numbers.
 use mir.Facts.{toZ-ofZ}
 use mir.Syntax.{w32}
 use mathlib.Core.Path.{_≡_, sym, _∙_}

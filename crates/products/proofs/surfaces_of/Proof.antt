@@ -1,4 +1,4 @@
--- `surfaces_of` meets its contract, by the cases of its two surfaces. Assumes nothing.
+-- `surfaces_of` meets its contract, by the cases of its two surfaces.
 use mathlib.Core.Path.{_≡_, sym, _∙_}
 use Rattle.products.specs.Products.{surfaceOf, surfacesOf}
 use borrow.Author.Needs.{needs}

@@ -1,4 +1,4 @@
--- `time_of` meets its contract: there are five octets or not. Assumes nothing.
+-- `time_of` meets its contract: there are five octets or not.
 use borrow.Author.Tests.{lt-ltb, le-ltb}
 use Rattle.octets.specs.BigEndian.{beAt}
 use Rattle.products.specs.Products.{timeOf}

@@ -1,4 +1,4 @@
--- `buttresk_bit_map` meets its contract: the section has its fields, or it has none. Assumes nothing.
+-- `buttresk_bit_map` meets its contract: the section has its fields, or it has none.
 use borrow.Author.Needs.{needs}
 use Rattle.buttresk.specs.Fields.{bitMapFields}
 use Rattle.buttresk.proofs.fields.buttresk_bit_map.Statement.{statement}

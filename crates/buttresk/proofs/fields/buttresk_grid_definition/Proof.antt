@@ -1,4 +1,4 @@
--- `buttresk_grid_definition` meets its contract: the section has its fields, or it has none. Assumes nothing.
+-- `buttresk_grid_definition` meets its contract: the section has its fields, or it has none.
 use borrow.Author.Needs.{needs}
 use Rattle.buttresk.specs.Fields.{gridFields}
 use Rattle.buttresk.proofs.fields.buttresk_grid_definition.Statement.{statement}

@@ -1,4 +1,4 @@
--- `buttresk_identification` meets its contract: the section has its fields, or it has none. Assumes nothing.
+-- `buttresk_identification` meets its contract: the section has its fields, or it has none.
 use mathlib.Core.Path.{_∙_}
 use borrow.Author.Needs.{needs}
 use Rattle.buttresk.specs.Fields.{identificationFields}

@@ -1,4 +1,4 @@
--- `buttresk_indicator` meets its contract: the section has its fields, or it has none. Assumes nothing.
+-- `buttresk_indicator` meets its contract: the section has its fields, or it has none.
 use borrow.Author.Needs.{needs}
 use Rattle.buttresk.specs.Fields.{indicatorFields}
 use Rattle.buttresk.proofs.fields.buttresk_indicator.Statement.{statement}

@@ -1,4 +1,4 @@
--- `definition_fields` meets its contract: the payload has its fields, or it has none. Assumes nothing.
+-- `definition_fields` meets its contract: the payload has its fields, or it has none.
 use borrow.Author.Needs.{needs}
 use Rattle.buttresk.specs.Product.{definitionFields}
 use Rattle.buttresk.proofs.product.definition_fields.Statement.{statement}

@@ -1,4 +1,4 @@
--- `octet_field` meets its contract: there is an octet, or there is none. Assumes nothing.
+-- `octet_field` meets its contract: there is an octet, or there is none.
 use borrow.Author.Needs.{needs}
 use Rattle.buttresk.specs.Product.{octetField}
 use Rattle.buttresk.proofs.product.octet_field.Statement.{statement}

@@ -1,4 +1,4 @@
--- `surfaces_field` meets its contract: there are both surfaces, or there is none. Assumes nothing.
+-- `surfaces_field` meets its contract: there are both surfaces, or there is none.
 use borrow.Author.Needs.{needs}
 use Rattle.buttresk.specs.Product.{surfacesField}
 use Rattle.buttresk.proofs.product.surfaces_field.Statement.{statement}

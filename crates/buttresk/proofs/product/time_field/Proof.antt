@@ -1,4 +1,4 @@
--- `time_field` meets its contract: there is a time, or there is none. Assumes nothing.
+-- `time_field` meets its contract: there is a time, or there is none.
 use borrow.Author.Needs.{needs}
 use Rattle.buttresk.specs.Product.{timeField}
 use Rattle.buttresk.proofs.product.time_field.Statement.{statement}

@@ -1,4 +1,4 @@
--- `buttresk_publish` meets its contract: the answer in numbers, and the destination that the public copy left. Assumes nothing.
+-- `buttresk_publish` meets its contract: the answer in numbers, and the destination that the public copy left.
 use mathlib.Core.Path.{_∙_}
 use borrow.Author.Needs.{needs}
 use Rattle.buttresk.proofs.storing.buttresk_publish.Statement.{statement}

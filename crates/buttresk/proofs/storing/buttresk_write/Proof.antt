@@ -1,4 +1,4 @@
--- `buttresk_write` meets its contract: the answer in numbers, and the destination that the writer left. Assumes nothing.
+-- `buttresk_write` meets its contract: the answer in numbers, and the destination that the writer left.
 use mathlib.Core.Path.{_∙_}
 use borrow.Author.Needs.{needs}
 use Rattle.buttresk.proofs.storing.buttresk_write.Statement.{statement}

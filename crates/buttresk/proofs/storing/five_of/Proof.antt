@@ -1,4 +1,4 @@
--- `five_of` meets its contract: each number is the end's. Assumes nothing.
+-- `five_of` meets its contract: each number is the end's.
 use mathlib.Core.Path.{refl}
 use Rattle.buttresk.specs.Stores.{fiveOf}
 use Rattle.buttresk.proofs.storing.five_of.Statement.{statement}

@@ -1,5 +1,5 @@
 -- `generating_process` says what its table of ranges says: the tests before each return leave an interval, on which
--- the table has one value. Assumes nothing.
+-- the table has one value.
 use mathlib.Core.Path.{refl}
 use native.Mathlib.Omega.{arith}
 use Rattle.products.specs.declared.templates.Index.the-variants.{Absent}

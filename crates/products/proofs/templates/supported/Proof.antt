@@ -1,5 +1,5 @@
 -- `supported` says what its table of ranges says: the tests before each return leave an interval, on which
--- the table has one value. Assumes nothing.
+-- the table has one value.
 use mathlib.Core.Path.{refl}
 use mathlib.Core.Bool.{false}
 use native.Mathlib.Omega.{arith}
