@@ -19,7 +19,7 @@ use Rattle.framing.specs.declared.read.Cursor.{Cursor}
 use Rattle.framing.specs.Read.{Read}
 use Rattle.framing.specs.Read as read
 use Rattle.framing.proofs.OneRead.{reads-as, goes}
-use Rattle.reading.specs.Reading.{reading, byOrder, overIn, byRead, seen}
+use Rattle.reading.specs.Reading.{reading, seenByOrder, overIn, seenByRead, seen}
 use Rattle.reading.specs.declared.Reading.{Reading}
 use Rattle.reading.specs.declared.Seen.{Seen}
 use Rattle.reading.specs.declared.Seen.the-variants.{Passes, Closes, Misplaced, NoGrid, Clean, InputOver, Unreadable}
@@ -48,8 +48,8 @@ Says found before InputOver = Unit
 Says found before (Unreadable fault offset) = Unit
 
 says-section : (before : Order) (j : Judged) (s : Section) (cursor : Cursor) → judged before (s .number) ≡ j
-    → Says (read.Section s cursor) before (byOrder j s cursor)
-unfolding byOrder
+    → Says (read.Section s cursor) before (seenByOrder j s cursor)
+unfolding seenByOrder
 says-section before (order.Fits next) s cursor e = (refl, e)
 says-section before order.Closes s cursor e = (refl, refl, e)
 says-section before order.Misplaced s cursor e = e
@@ -59,8 +59,8 @@ says-over : (before : Order) (t : Bool) → Says read.Over before (pick t Clean 
 says-over before true = refl
 says-over before false = tt
 
-says : (found : Read) (before : Order) → Says found before (byRead found before)
-unfolding byRead overIn
+says : (found : Read) (before : Order) → Says found before (seenByRead found before)
+unfolding seenByRead overIn
 says (read.Section s cursor) before = says-section before (judged before (s .number)) s cursor refl
 says read.Over before = says-over before (isBetween before)
 says (read.Refused fault offset) before = tt
@@ -101,14 +101,14 @@ module _ (file : List ℕ) (r : Reading) where
 
 -- a section that first completes a submessage is seen again as the start of the next
 again-order : (t : Bool) (number : ℕ) (s : Section) (cursor : Cursor) → eqb number 8 ≡ t → {u : Section} {next : Reading}
-    → byOrder (pick t order.Closes (judged SubmessageStart number)) s cursor ≡ Passes u next
-    → byOrder (judged SubmessageStart number) s cursor ≡ Passes u next
-unfolding byOrder
+    → seenByOrder (pick t order.Closes (judged SubmessageStart number)) s cursor ≡ Passes u next
+    → seenByOrder (judged SubmessageStart number) s cursor ≡ Passes u next
+unfolding seenByOrder
 again-order true number s cursor e {u} {next} f = let g : Closes s (reading cursor _) ≡ Passes u next = f in let z : _≡_ {A = ℕ} 0 1 = cc in absurd (omega arith)
 again-order false number s cursor e f = f
 
-again : (found : Read) {s : Section} {next : Reading} → byRead found AfterData ≡ Passes s next → byRead found SubmessageStart ≡ Passes s next
-unfolding byRead overIn isBetween judged
+again : (found : Read) {s : Section} {next : Reading} → seenByRead found AfterData ≡ Passes s next → seenByRead found SubmessageStart ≡ Passes s next
+unfolding seenByRead overIn isBetween judged
 again (read.Section t cursor) e = again-order (eqb (t .number) 8) (t .number) t cursor refl e
 again read.Over e = e
 again (read.Refused fault offset) e = e
@@ -119,4 +119,4 @@ pub seen-again : (file : List ℕ) (cursor : Cursor) (before : Order) {s : Secti
 unfolding seen
 seen-again file cursor before {s} {next} e c =
     again (readAt file (cursor .at .0) (cursor .rest))
-    (subst (λ (o : Order). byRead (readAt file (cursor .at .0) (cursor .rest)) o ≡ Passes s next) (completes-only before (s .number) c .0) e)
+    (subst (λ (o : Order). seenByRead (readAt file (cursor .at .0) (cursor .rest)) o ≡ Passes s next) (completes-only before (s .number) c .0) e)

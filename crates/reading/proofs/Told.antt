@@ -102,8 +102,8 @@ module _ (file : List ℕ) (room : Room) (r : Reached) where
   by-order : (s : Section) (cursor : Cursor) (j : Judged) → judged (r .order) (s .number) ≡ j
       → followed r s (completed (completes (r .order) (s .number)) room r (λ r′ lines. byOrder j room r′ s lines))
       (λ r′. toldFrom file room r′ cursor)
-      ≡ toldBy file room r (spec.byOrder j s cursor)
-  unfolding byOrder toldBy spec.byOrder
+      ≡ toldBy file room r (spec.seenByOrder j s cursor)
+  unfolding byOrder toldBy spec.seenByOrder
   by-order s cursor (order.Fits next) e = refl
   by-order s cursor order.Closes e = rw (closes-none (r .order) (s .number) e)
   by-order s cursor order.Misplaced e = stopping (completes (r .order) (s .number))
@@ -133,8 +133,8 @@ module _ (file : List ℕ) (room : Room) (r : Reached) where
 
   by-read : (next : Read)
       → walkedFrom room r (listed next (listingOn file) .sections) (listed next (listingOn file) .ending)
-      ≡ toldBy file room r (spec.byRead next (r .order))
-  unfolding walkedFrom concluded toldFrom toldBy spec.byRead spec.overIn
+      ≡ toldBy file room r (spec.seenByRead next (r .order))
+  unfolding walkedFrom concluded toldFrom toldBy spec.seenByRead spec.overIn
   by-read (read.Section s cursor) =
       ap (λ (j : Judgement). followed r s j (λ r′. toldFrom file room r′ cursor)) (judges room r s _ refl)
       ∙ by-order s cursor (judged (r .order) (s .number)) refl

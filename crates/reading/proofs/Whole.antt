@@ -1,4 +1,4 @@
--- What is read where the tests of `is_whole`, `header_ahead` and `end_ahead` pass. Assumes nothing.
+-- What is read where the tests of `is_whole`, `header_ahead` and `end_ahead` pass.
 use Prim.Native.Nat.{ℕ, _+_, _-_, _≤_, _<_}
 use native.Mathlib.Nat.{add-zero}
 use native.Mathlib.Omega.{arith}

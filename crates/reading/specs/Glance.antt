@@ -38,11 +38,14 @@ lastRead number =
     (pick (eqb number 6) AfterBitMap AfterData))))))
 
 -- of a section with this header nothing is refused, if its message has room for it
-unfoldable pub Whole : ℕ → ℕ → ℕ → Bool → Type 0
-Whole number len left answer =
+unfoldable pub WholeAhead : ℕ → ℕ → ℕ → Bool → Type 0
+WholeAhead number len left answer =
     answer ≡ true
     → (5 ≤ len)
-    × ((at rest : ℕ) → len ≤ rest → payloadAt (leastPayloadOf number) at number len left rest ≡ section number at len (rest - len))
+    × ((at rest : ℕ)
+    → len ≤ rest
+    → payloadAt (leastPayloadOf number) at number len left rest
+    ≡ section number at len (rest - len))
 
 -- a section of this number fits the order, and completes no submessage before it
 pub record Fitting (order : Order) (number : ℕ) : Type 0 where
@@ -58,12 +61,14 @@ abbrev pub ReadAs : List ℕ → Cursor → Section → Cursor → Type 0
 ReadAs file cursor s next = readAt file (cursor .at .0) (cursor .rest) ≡ read.Section s next
 
 -- it is passed
-pub record Passing (file : List ℕ) (cursor : Cursor) (order : Order) (s : Section) (next : Cursor) : Type 0 where
+pub record PassingAhead
+    (file : List ℕ) (cursor : Cursor) (order : Order) (s : Section) (next : Cursor) : Type 0 where
   pub reads : ReadAs file cursor s next
   pub fitting : Fitting order (s .number)
 
 -- it closes its message
-pub record Closing (file : List ℕ) (cursor : Cursor) (order : Order) (s : Section) (next : Cursor) : Type 0 where
+pub record ClosingAhead
+    (file : List ℕ) (cursor : Cursor) (order : Order) (s : Section) (next : Cursor) : Type 0 where
   pub reads : ReadAs file cursor s next
   pub closes : judged order (s .number) ≡ Closes
   pub completing : completes order (s .number) ≡ false

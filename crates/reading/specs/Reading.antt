@@ -1,4 +1,5 @@
--- The next section of a file, read and judged (01, "Framing" and "Order"). No table, no line and no count has a say in it.
+-- The next section of a file, read and judged (01, "Framing" and "Order"). No table, no line and no
+-- count has a say in it.
 use Prim.Native.Nat.{ℕ}
 use mathlib.Core.List.{List}
 use Rattle.octets.specs.Choice.{pick}
@@ -14,7 +15,15 @@ use Rattle.order.specs.declared.Judged.{Judged}
 use Rattle.order.specs.declared.Judged.the-variants as order
 use Rattle.reading.specs.declared.Reading.{Reading}
 use Rattle.reading.specs.declared.Seen.{Seen}
-use Rattle.reading.specs.declared.Seen.the-variants.{Passes, Closes, Misplaced, NoGrid, Clean, InputOver, Unreadable}
+use Rattle.reading.specs.declared.Seen.the-variants.{
+  Passes,
+  Closes,
+  Misplaced,
+  NoGrid,
+  Clean,
+  InputOver,
+  Unreadable,
+}
 
 abbrev pub reading : Cursor → Order → Reading
 reading cursor order = record { cursor = cursor; order = order }
@@ -24,22 +33,22 @@ abbrev pub start : Reading
 start = reading (record { at = record { 0 = 0 }; rest = 0 }) BetweenMessages
 
 -- a well-read section, by what the order says of it
-unfoldable pub byOrder : Judged → Section → Cursor → Seen
-byOrder (order.Fits next) s cursor = Passes s (reading cursor next)
-byOrder order.Closes s cursor = Closes s (reading cursor BetweenMessages)
-byOrder order.Misplaced s cursor = Misplaced s
-byOrder order.NoGrid s cursor = NoGrid s
+unfoldable pub seenByOrder : Judged → Section → Cursor → Seen
+seenByOrder (order.Fits next) s cursor = Passes s (reading cursor next)
+seenByOrder order.Closes s cursor = Closes s (reading cursor BetweenMessages)
+seenByOrder order.Misplaced s cursor = Misplaced s
+seenByOrder order.NoGrid s cursor = NoGrid s
 
 -- the input is over: clean between messages
 unfoldable pub overIn : Order → Seen
 overIn before = pick (isBetween before) Clean InputOver
 
 -- by what is read
-unfoldable pub byRead : Read → Order → Seen
-byRead (read.Section s cursor) before = byOrder (judged before (s .number)) s cursor
-byRead read.Over before = overIn before
-byRead (read.Refused fault offset) before = Unreadable fault offset
+unfoldable pub seenByRead : Read → Order → Seen
+seenByRead (read.Section s cursor) before = seenByOrder (judged before (s .number)) s cursor
+seenByRead read.Over before = overIn before
+seenByRead (read.Refused fault offset) before = Unreadable fault offset
 
 -- what stands where the reading is
 unfoldable pub seen : List ℕ → Reading → Seen
-seen file r = byRead (readAt file (r .cursor .at .0) (r .cursor .rest)) (r .order)
+seen file r = seenByRead (readAt file (r .cursor .at .0) (r .cursor .rest)) (r .order)

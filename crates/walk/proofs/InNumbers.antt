@@ -1,31 +1,37 @@
 -- The walk whose lines are twelve numbers each.
-use mathlib.Core.Path.{_≡_, refl, sym, ap, subst, _∙_}
+use mathlib.Core.Path.{_≡_, refl, sym, ap, _∙_}
 use mathlib.Core.Bool.{true, false}
 use mathlib.Core.List.{List, [], _∷_, _++_}
 use Prim.Native.Nat.{ℕ, _+_, _*_, _/_, _≤_, _<_}
-use native.Mathlib.Nat.{zero-add}
 use native.Mathlib.Omega.{arith}
 use lib.ListN.{length, set}
-use borrow.Author.Tests.{eq-eqb, ne-eqb, lt-ltb}
+use lib.Dec.{leb}
+use borrow.Author.Tests.{eq-eqb, ne-eqb, lt-ltb, leb-true, leb-false}
 use Rattle.order.specs.Order.{completes}
 use Rattle.order.specs.declared.Place.{Place}
-use Rattle.order.specs.declared.Order.{Order}
-use Rattle.order.specs.declared.Order.the-variants.{SubmessageStart}
 use Rattle.framing.specs.declared.read.Section.{Section}
 use Rattle.framing.specs.declared.read.Cursor.{Cursor}
-use Rattle.index.specs.Lines.{place, opened, inForce, lineOf}
-use Rattle.index.specs.declared.line.Force.{Force}
+use Rattle.index.specs.Lines.{place, opened, inForce}
 use Rattle.index.specs.declared.line.Line.{Line}
 use Rattle.index.specs.declared.line.LocalUsePlace.{LocalUsePlace}
 use Rattle.index.specs.declared.line.LocalUsePlace.the-variants.{At}
-use Rattle.index.specs.declared.refusal.Refusal.the-variants as refusal
 use Rattle.index.specs.declared.refusal.Outcome.{Outcome}
-use Rattle.index.specs.declared.refusal.Outcome.the-variants as outcome
-use Rattle.index.specs.declared.listed.Listed.{Listed}
-use Rattle.index.specs.Walk.{Reached, Told, here, goneOn, walked}
-use Rattle.walk.specs.Tables.{roomOf, rowsOf, stored, answerOf}
+use Rattle.index.specs.Walk.{Reached, here, walked}
+use Rattle.walk.specs.Tables.{roomOf, stored}
 use Rattle.walk.specs.declared.lines.Answer.{Answer}
-use Rattle.walk.proofs.Put.{putAt, put-stored}
+use Rattle.walk.specs.Put.{putAt, rowOf}
+use Rattle.walk.specs.Standing.{
+  forceIn,
+  openLine,
+  closedLine,
+  toldLine,
+  passedRow,
+  closedBoth,
+  endedAt,
+  misplacedAnswer,
+  misplacedLines,
+}
+use Rattle.walk.specs.declared.standing.Standing.{Standing}
 use Rattle.reading.specs.Reading.{reading, seen}
 use Rattle.reading.specs.declared.Reading.{Reading}
 use Rattle.reading.specs.declared.Seen.the-variants.{Passes, Closes, Misplaced}
@@ -33,7 +39,7 @@ use Rattle.reading.proofs.Moves.{seen-again}
 use Rattle.walk.specs.Numbers.{lineNumbers, linesOf, sevenOf, walkNumbers}
 use Rattle.walk.specs.declared.numbers.WalkAnswer.{WalkAnswer}
 use Rattle.walk.proofs.Lent as tables
-use Rattle.walk.proofs.Lent.{encoded, Out, result, out}
+use Rattle.walk.proofs.Lent.{encoded, Out, result, by-test-2, none}
 
 pub twelve : (l : Line) → length (lineNumbers l) ≡ 12
 unfolding lineNumbers
@@ -47,23 +53,27 @@ unfolding encoded linesOf
 same-lines [] = refl
 same-lines (l ∷ more) = ap (λ (rest : List ℕ). lineNumbers l ++ rest) (same-lines more)
 
--- what is in force, and what is reached, from the loop's variables
-abbrev pub forceIn : ℕ → ℕ → LocalUsePlace → List Place → Force
-forceIn message submessage local places = record { message = message; submessage = submessage; local = local; places = places }
+-- what is reached, from the loop's variables
+abbrev pub reachedAt : Standing → LocalUsePlace → List Place → Reached
+reachedAt at local places =
+    record {
+      sections = at .sections;
+      lines = at .lines;
+      last = at .last;
+      order = at .reading .order;
+      force = forceIn at local places;
+    }
 
-abbrev pub reachedIn : Order → ℕ → ℕ → Listed → Force → Reached
-reachedIn order sections told last force = record { sections = sections; lines = told; last = last; order = order; force = force }
-
-pub in-force-local : (message submessage : ℕ) (local : LocalUsePlace) (places : List Place) (number : ℕ) (at : Place) → number ≡ 2
-    → inForce (forceIn message submessage local places) number at ≡ forceIn message submessage (At at) places
+pub in-force-local : (at : Standing) (local : LocalUsePlace) (places : List Place) (number : ℕ) (here : Place) → number ≡ 2
+    → inForce (forceIn at local places) number here ≡ forceIn at (At here) places
 unfolding inForce
-in-force-local message submessage local places number at e = simp (eq-eqb number 2 e)
+in-force-local at local places number here e = simp (eq-eqb number 2 e)
 
-pub in-force-kept : (message submessage : ℕ) (local : LocalUsePlace) (places : List Place) (number : ℕ) (at : Place)
+pub in-force-kept : (at : Standing) (local : LocalUsePlace) (places : List Place) (number : ℕ) (here : Place)
     → (number ≡ 2 → ⊥) → number < 8
-    → inForce (forceIn message submessage local places) number at ≡ forceIn message submessage local (set places number at)
+    → inForce (forceIn at local places) number here ≡ forceIn at local (set places number here)
 unfolding inForce
-in-force-kept message submessage local places number at other kept = simp (ne-eqb number 2 other, lt-ltb number 8 kept)
+in-force-kept at local places number here other kept = simp (ne-eqb number 2 other, lt-ltb number 8 kept)
 
 module _ (file rows₀ lines₀ : List ℕ) where
   abbrev pub Kept : Reached → Cursor → List ℕ → List ℕ → Type 0
@@ -75,16 +85,24 @@ module _ (file rows₀ lines₀ : List ℕ) where
   lines-are : meant .lines ≡ stored (linesOf (walked (roomOf (length rows₀) (length lines₀ / 12)) file .lines)) lines₀
   lines-are = tables.lines-meant 12 lineNumbers twelve file rows₀ lines₀ (length lines₀ / 12) (in-room (length lines₀)) ∙ ap (λ (l : List ℕ). stored l lines₀) (same-lines _)
 
+  abbrev pub KeptAt : Standing → LocalUsePlace → List Place → List ℕ → List ℕ → Type 0
+  KeptAt at local places rows lines = Kept (reachedAt at local places) (at .reading .cursor) rows lines
+
   -- the answer and both tables, at the end
-  pub finished : {a b c : ℕ} {o o′ : Outcome} {rows lines : List ℕ} (answer : WalkAnswer)
-      → meant ≡ result 12 lineNumbers twelve a b c o rows lines → o′ ≡ o
-      → answer ≡ sevenOf (record { sections = a; submessages = b; messages = c; outcome = o′ })
-      → (answer ≡ walkNumbers file rows₀ lines₀ .answer)
+  abbrev pub Met : WalkAnswer → List ℕ → List ℕ → Type 0
+  Met answer rows lines =
+      (answer ≡ walkNumbers file rows₀ lines₀ .answer)
       × ((rows ≡ walkNumbers file rows₀ lines₀ .rows) × (lines ≡ walkNumbers file rows₀ lines₀ .lines))
+
+  -- .. of a walk that ends at a standing
+  abbrev pub EndsAt : Standing → Outcome → List ℕ → List ℕ → Type 0
+  EndsAt at end rows lines = meant ≡ result 12 lineNumbers twelve (at .sections) (at .lines) (at .message) end rows lines
+
+  pub finished : (at : Standing) {end : Outcome} {rows lines : List ℕ} {answer : WalkAnswer}
+      → EndsAt at end rows lines → answer ≡ endedAt at end → Met answer rows lines
   unfolding walkNumbers
-  finished {a} {b} {c} {o} {o′} answer e g f = (
+  finished at e f = (
     f
-        ∙ ap (λ (x : Outcome). sevenOf (record { sections = a; submessages = b; messages = c; outcome = x })) g
         ∙ ap (λ (x : Out 12 lineNumbers twelve). sevenOf (x .answer)) (sym e)
         ∙ ap (λ (x : Answer). sevenOf x) (tables.answer-meant 12 lineNumbers twelve file rows₀ lines₀ (length lines₀ / 12) (in-room (length lines₀))),
     (
@@ -93,61 +111,67 @@ module _ (file rows₀ lines₀ : List ℕ) where
     ),
   )
 
-  -- the laws of `Tables`, for the tables as they were stored
-  module _ {r : Reached} {cursor : Cursor} {rows lines : List ℕ} (kept : Kept r cursor rows lines) where
-    pub passed : {s : Section} {next : Reading} {force : Force} {rows′ : List ℕ}
-        → inForce (r .force) (s .number) (place (r .sections)) ≡ force
-        → seen file (reading cursor (r .order)) ≡ Passes s next → completes (r .order) (s .number) ≡ false → r .sections < length rows₀ / 3
-        → rows′ ≡ putAt (r .sections * 3) (s .number ∷ s .offset .0 ∷ s .length ∷ []) rows
-        → Kept (record { sections = r .sections + 1; lines = r .lines; last = here r s; order = next .order; force = force }) (next .cursor) rows′ lines
-    passed {force = force} f e c free put =
-        rw put
-        (tables.passed 12 lineNumbers twelve file rows₀ lines₀ (length lines₀ / 12) (in-room (length lines₀)) kept force f e c free)
+  -- a section that fits is looked at, with no submessage left to tell before it
+  pub record Passing (at : Standing) (local : LocalUsePlace) (places : List Place) (rows lines : List ℕ) (s : Section) (next : Reading) : Type 0 where
+    pub kept : KeptAt at local places rows lines
+    pub sees : seen file (at .reading) ≡ Passes s next
+    pub alone : completes (at .reading .order) (s .number) ≡ false
 
-    pub closed : {s : Section} {next : Reading} {rows′ lines′ : List ℕ} → seen file (reading cursor (r .order)) ≡ Closes s next
-        → r .sections < length rows₀ / 3 → r .lines < length lines₀ / 12
-        → rows′ ≡ putAt (r .sections * 3) (s .number ∷ s .offset .0 ∷ s .length ∷ []) rows
-        → lines′ ≡ putAt (r .lines * 12) (lineNumbers (lineOf (r .force) (place (r .sections)))) lines
-        → Kept
+  -- the laws of `Lent`, for the tables as they were stored
+  module _ {at : Standing} {local : LocalUsePlace} {places : List Place} {rows lines : List ℕ} where
+    pub passing-on : {s : Section} {next : Reading} {at′ : Standing} {lines′ : List ℕ}
+        → KeptAt at local places rows lines → seen file (at .reading) ≡ Passes s next
+        → completes (at .reading .order) (s .number) ≡ false → at′ ≡ at → lines′ ≡ lines
+        → Passing at′ local places rows lines′ s next
+    passing-on kept e c same untouched = rw (same, untouched) (record { kept = kept; sees = e; alone = c })
+
+    -- .. or once the line of the submessage that it completes is told
+    pub passing-behind : {s : Section} {next : Reading} {at′ : Standing} {lines′ : List ℕ}
+        → KeptAt at local places rows lines → seen file (at .reading) ≡ Passes s next
+        → completes (at .reading .order) (s .number) ≡ true → at .lines < length lines₀ / 12
+        → at′ ≡ toldLine at → lines′ ≡ putAt (at .lines * 12) (lineNumbers (openLine at local places)) lines
+        → Passing at′ local places rows lines′ s next
+    passing-behind {s} kept e c free same put =
+        rw (same, put)
         (record {
-          sections = r .sections + 1;
-          lines = r .lines + 1;
-          last = here r s;
-          order = next .order;
-          force = opened (r .force .message + 1);
+          kept = tables.gone-on 12 lineNumbers twelve file rows₀ lines₀ (length lines₀ / 12) (in-room (length lines₀)) kept e c free;
+          sees = seen-again file (at .reading .cursor) (at .reading .order) e c;
+          alone = none (s .number);
         })
-        (next .cursor)
-        rows′
-        lines′
-    closed e free line put told =
-        rw (put, told)
+
+    pub passed : {s : Section} {next : Reading} {at′ : Standing} {local′ : LocalUsePlace} {places′ : List Place} {rows′ : List ℕ}
+        → Passing at local places rows lines s next → at .sections < length rows₀ / 3
+        → inForce (forceIn at local places) (s .number) (place (at .sections)) ≡ forceIn at local′ places′
+        → at′ ≡ passedRow at s next → rows′ ≡ putAt (at .sections * 3) (rowOf s) rows
+        → KeptAt at′ local′ places′ rows′ lines
+    passed {local′ = local′} {places′ = places′} p free f same put =
+        rw (same, put)
+        (tables.passed 12 lineNumbers twelve file rows₀ lines₀ (length lines₀ / 12) (in-room (length lines₀)) (p .kept)
+        (forceIn at local′ places′) f (p .sees) (p .alone) free)
+
+    pub closed : {s : Section} {next : Reading} {at′ : Standing} {rows′ lines′ : List ℕ}
+        → KeptAt at local places rows lines → seen file (at .reading) ≡ Closes s next
+        → at .sections < length rows₀ / 3 → at .lines < length lines₀ / 12
+        → at′ ≡ closedBoth at s next → rows′ ≡ putAt (at .sections * 3) (rowOf s) rows
+        → lines′ ≡ putAt (at .lines * 12) (lineNumbers (closedLine at local places)) lines
+        → KeptAt at′ (opened 0 .local) (opened 0 .places) rows′ lines′
+    closed kept e free line same put told =
+        rw (same, put, told)
         (tables.closed 12 lineNumbers twelve file rows₀ lines₀ (length lines₀ / 12) (in-room (length lines₀)) kept e free line)
 
-    -- the submessage goes on, and its next section is passed
-    pub gone-on-passed : {s : Section} {next : Reading} {force : Force} {rows′ lines′ : List ℕ}
-        → inForce (goneOn r .force) (s .number) (place (r .sections)) ≡ force
-        → seen file (reading cursor (r .order)) ≡ Passes s next → completes (r .order) (s .number) ≡ true
-        → r .lines < length lines₀ / 12 → lines′ ≡ putAt (r .lines * 12) (lineNumbers (lineOf (r .force) (place 0))) lines
-        → r .sections < length rows₀ / 3 → rows′ ≡ putAt (r .sections * 3) (s .number ∷ s .offset .0 ∷ s .length ∷ []) rows
-        → Kept (record { sections = r .sections + 1; lines = r .lines + 1; last = here r s; order = next .order; force = force }) (next .cursor) rows′ lines′
-    gone-on-passed {force = force} f e c free told row put =
-        rw (put, told) (tables.passed-behind 12 lineNumbers twelve file rows₀ lines₀ (length lines₀ / 12) (in-room (length lines₀)) kept force f e c free row)
-
-    -- .. or finds the table full
-    pub gone-on-no-row : {s : Section} {next : Reading} {lines′ : List ℕ} → seen file (reading cursor (r .order)) ≡ Passes s next
-        → completes (r .order) (s .number) ≡ true → r .lines < length lines₀ / 12
-        → lines′ ≡ putAt (r .lines * 12) (lineNumbers (lineOf (r .force) (place 0))) lines → length rows₀ / 3 ≤ r .sections
-        → meant
-        ≡ result 12 lineNumbers twelve (r .sections) (r .lines + 1) (r .force .message)
-        (outcome.Refused refusal.SectionTableFull (place (r .sections)) (s .offset)) rows lines′
-    gone-on-no-row e c free told full = rw told (tables.no-row-behind 12 lineNumbers twelve file rows₀ lines₀ (length lines₀ / 12) (in-room (length lines₀)) kept e c free full)
-
-    pub misplaced-line : {s : Section} {lines′ : List ℕ} → seen file (reading cursor (r .order)) ≡ Misplaced s
-        → completes (r .order) (s .number) ≡ true → r .lines < length lines₀ / 12
-        → lines′ ≡ putAt (r .lines * 12) (lineNumbers (lineOf (r .force) (place 0))) lines
-        → meant
-        ≡ result 12 lineNumbers twelve (r .sections) (r .lines + 1) (r .force .message)
-        (outcome.Refused (refusal.Misplaced (s .number)) (place (r .sections)) (s .offset)) rows lines′
-    misplaced-line e c free told =
-        rw told
-        (tables.misplaced-line 12 lineNumbers twelve file rows₀ lines₀ (length lines₀ / 12) (in-room (length lines₀)) kept e c free)
+    -- 11, or 14 before it
+    pub misplaced : {s : Section} {answer : WalkAnswer} {lines′ : List ℕ}
+        → KeptAt at local places rows lines → seen file (at .reading) ≡ Misplaced s
+        → answer ≡ misplacedAnswer (length lines / 12) at s
+        → lines′ ≡ misplacedLines at (openLine at local places) s lines → Met answer rows lines′
+    unfolding misplacedAnswer misplacedLines
+    misplaced {s} kept e answered put =
+        rw (answered, put, kept .same-lines)
+        (by-test-2 Answered (completes (at .reading .order) (s .number))
+        (λ c. by-test-2 Answered (leb (length lines₀ / 12) (at .lines))
+        (λ full. finished at (tables.no-line-misplaced 12 lineNumbers twelve file rows₀ lines₀ (length lines₀ / 12) (in-room (length lines₀)) kept e c (leb-true _ _ full)) refl)
+        λ left. finished (toldLine at) (tables.misplaced-line 12 lineNumbers twelve file rows₀ lines₀ (length lines₀ / 12) (in-room (length lines₀)) kept e c (leb-false _ _ left)) refl)
+        λ c. finished at (tables.misplaced 12 lineNumbers twelve file rows₀ lines₀ (length lines₀ / 12) (in-room (length lines₀)) kept e c) refl)
+      where
+        Answered : WalkAnswer → List ℕ → Type 0
+        Answered answer lines′ = Met answer rows lines′

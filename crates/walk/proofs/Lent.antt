@@ -29,7 +29,8 @@ use Rattle.index.specs.declared.bounds.Room.{Room}
 use Rattle.index.specs.Walk.{Reached, atStart, here, Judgement, fitted, closing, goneOn, Told, ends, followed, walked}
 use Rattle.walk.specs.Tables.{rowsOf, stored, answerOf}
 use Rattle.walk.specs.declared.lines.Answer.{Answer}
-use Rattle.walk.proofs.Put.{putAt, put-none, put-more, put-length, put-stored}
+use Rattle.walk.specs.Put.{putAt}
+use Rattle.walk.proofs.Put.{put-none, put-more, put-length, put-stored}
 use Rattle.reading.specs.Reading.{reading, start, seen}
 use Rattle.reading.specs.declared.Reading.{Reading}
 use Rattle.reading.specs.declared.Seen.{Seen}
@@ -38,7 +39,7 @@ use Rattle.reading.proofs.Moves.{closes-between, seen-again}
 use Rattle.reading.proofs.Told.{toldFrom, toldBy, told-next, told-start}
 
 -- by cases on a test, for two choices
-by-test-2 : {A B : Type 0} (P : A → B → Type 0) (t : Bool) {a c : A} {b d : B} → (t ≡ true → P a b) → (t ≡ false → P c d)
+pub by-test-2 : {A B : Type 0} (P : A → B → Type 0) (t : Bool) {a c : A} {b d : B} → (t ≡ true → P a b) → (t ≡ false → P c d)
     → P (pick t a c) (pick t b d)
 by-test-2 P true then else = then refl
 by-test-2 P false then else = else refl
@@ -155,7 +156,7 @@ zeros : (a b c : ℕ) (o : Outcome)
     (record { sections = a; submessages = b; messages = c; outcome = o })
 zeros a b c o = rw (zero-add a, zero-add b, zero-add c)
 
-none : (number : ℕ) → completes SubmessageStart number ≡ false
+pub none : (number : ℕ) → completes SubmessageStart number ≡ false
 unfolding completes
 none number = refl
 

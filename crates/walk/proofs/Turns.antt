@@ -50,7 +50,8 @@ use Rattle.walk.specs.Turns.{
   concludedOf,
 }
 use Rattle.walk.specs.declared.tally.Tally.{Tally}
-use Rattle.walk.proofs.Put.{putAt, put-one}
+use Rattle.walk.specs.Put.{putAt}
+use Rattle.walk.proofs.Put.{put-one}
 use Rattle.walk.proofs.Lent as lent
 use Rattle.walk.proofs.Lent.{encoded, Out, result}
 

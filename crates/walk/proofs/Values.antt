@@ -1,4 +1,4 @@
--- The machine values of a state and of a line, that their numbers fit, and a function's locals. Assumes nothing.
+-- The machine values of a state and of a line, that their numbers fit, and a function's locals.
 use Prim.Native.Nat.{ℕ, zero, suc}
 use mathlib.Core.List.{[], _∷_, List}
 use mir.Syntax.{Ty, Local, local, tyUnit}

@@ -1,5 +1,6 @@
--- The walk with both tables lent as numbers, and its answer's seven numbers (01, "Order", "Refusal numbers"). What a walk tells, the
--- section table and the counts are those of the crates `meaning` and `walk`. Assumes nothing.
+-- The walk with both tables lent as numbers, and its answer's seven numbers (01, "Order", "Refusal
+-- numbers"). What a walk tells is the crate `index`'s; the section table and the counts are those
+-- of `Tables`.
 use Prim.Native.Nat.{ℕ, _/_}
 use mathlib.Core.List.{List, [], _∷_, _++_}
 use lib.ListN.{length}
@@ -44,7 +45,8 @@ unfoldable pub linesOf : List Line → List ℕ
 linesOf [] = []
 linesOf (l ∷ more) = lineNumbers l ++ linesOf more
 
--- an answer in numbers: section lines, submessage lines and messages closed, then outcome, place, offset and detail
+-- an answer in numbers: section lines, submessage lines and messages closed, then outcome, place,
+-- offset and detail
 abbrev pub sevenOf : Answer → WalkAnswer
 sevenOf a =
     let end = endOf (a .outcome) in
@@ -59,13 +61,13 @@ sevenOf a =
     }
 
 -- the answer, and the whole content of both tables
-pub record Tabled : Type 0 where
+pub record TabledNumbers : Type 0 where
   pub answer : WalkAnswer
   pub rows : List ℕ
   pub lines : List ℕ
 
--- the walk of a file with lent tables: room for a line is twelve numbers, and a remainder is no room
-unfoldable pub walkNumbers : List ℕ → List ℕ → List ℕ → Tabled
+-- the walk of a file with lent tables: room for a line is twelve numbers, and a remainder is none
+unfoldable pub walkNumbers : List ℕ → List ℕ → List ℕ → TabledNumbers
 walkNumbers file rows lines =
     let told = walked (roomOf (length rows) (length lines / 12)) file in
     record {

@@ -1,4 +1,5 @@
--- The lent tables and the answer (01, "Order": "The section table is rows of three numbers"; "Refusal numbers"). Assumes nothing.
+-- The lent tables and the answer (01, "Order": "The section table is rows of three numbers";
+-- "Refusal numbers").
 use Prim.Native.Nat.{ℕ, _/_}
 use mathlib.Core.List.{List, [], _∷_, _++_}
 use lib.ListN.{length, drop}

@@ -1,9 +1,9 @@
 -- Machinery: a turn of the loop that fills the lent tables, over what is seen at the reading.
 use Prim.Native.Nat.{ℕ, _+_, _*_}
 use mathlib.Core.Bool.{Bool, true, false}
-use mathlib.Core.List.{List, _∷_, _++_}
+use mathlib.Core.List.{List}
 use lib.Dec.{ltb, leb}
-use lib.ListN.{length, take, drop, set}
+use lib.ListN.{set}
 use Rattle.octets.specs.Choice.{pick}
 use Rattle.framing.specs.declared.read.Section.{Section}
 use Rattle.order.specs.Order.{completes}
@@ -20,16 +20,23 @@ use Rattle.index.specs.Walk.{atStart}
 use Rattle.reading.specs.Reading.{reading, start, seen}
 use Rattle.reading.specs.declared.Reading.{Reading}
 use Rattle.reading.specs.declared.Seen.{Seen}
-use Rattle.reading.specs.declared.Seen.the-variants.{Passes, Closes, Misplaced, NoGrid, Clean, InputOver, Unreadable}
+use Rattle.reading.specs.declared.Seen.the-variants.{
+  Passes,
+  Closes,
+  Misplaced,
+  NoGrid,
+  Clean,
+  InputOver,
+  Unreadable,
+}
 use Rattle.walk.specs.declared.lines.Answer.{Answer}
 use Rattle.walk.specs.declared.tally.Tally.{Tally}
+use Rattle.walk.specs.Put.{putAt, rowOf}
 use Rattle.walk.specs.Tables.{roomOf}
 
 -- a section's row in the table, at its place
 abbrev pub rowAt : Listed → List ℕ → List ℕ
-rowAt s rows =
-    let i = s .place .0 * 3 in
-    take i rows ++ (s .section .number ∷ s .section .offset .0 ∷ s .section .length ∷ drop (i + 3) rows)
+rowAt s rows = putAt (s .place .0 * 3) (rowOf (s .section)) rows
 
 -- the section table after a turn
 unfoldable pub rowsAfter : Bool → Listed → List ℕ → List ℕ
@@ -184,8 +191,10 @@ bySeen (Closes s next) room t = closedOf room t s next
 bySeen (Misplaced s) room t = misplacedOf room t s
 bySeen (NoGrid s) room t = refusedOf t (refusal.NoGrid (s .number)) s
 bySeen Clean room t = endedOf t outcome.Clean
-bySeen InputOver room t = endedOf t (outcome.Refused refusal.InputOver (t .last .place) (t .last .section .offset))
-bySeen (Unreadable fault offset) room t = endedOf t (outcome.Refused (refusal.Unreadable fault) (place (t .sections)) offset)
+bySeen InputOver room t =
+    endedOf t (outcome.Refused refusal.InputOver (t .last .place) (t .last .section .offset))
+bySeen (Unreadable fault offset) room t =
+    endedOf t (outcome.Refused (refusal.Unreadable fault) (place (t .sections)) offset)
 
 -- one turn
 unfoldable pub turnOf : List ℕ → Room → Tally → Tally
@@ -198,10 +207,16 @@ stepOf file numbers lines t = turnOf file (roomOf numbers lines) t
 -- before the first turn: a file is at most 2^40 octets
 unfoldable pub begunOf : ℕ → Tally
 begunOf octets =
-    pick (ltb mostOctets octets) (endedOf unstarted (outcome.Refused refusal.FileTooLong (place 0) (record { 0 = 0 })))
+    pick (ltb mostOctets octets)
+    (endedOf unstarted (outcome.Refused refusal.FileTooLong (place 0) (record { 0 = 0 })))
     unstarted
 
 -- the counts and the outcome of a walk that has ended
 abbrev pub concludedOf : Tally → Answer
 concludedOf t =
-    record { sections = t .sections; submessages = t .lines; messages = t .force .message; outcome = t .outcome }
+    record {
+      sections = t .sections;
+      submessages = t .lines;
+      messages = t .force .message;
+      outcome = t .outcome;
+    }

@@ -1,11 +1,12 @@
 // The loop over the lent tables.
 ghost use mathlib.Core.Path.{_≡_};
 ghost use mathlib.Core.Bool.{true};
-ghost use mathlib.Core.List.{_++_, _∷_};
-ghost use Prim.Native.Nat.{_+_, _/_, _<_, _≤_};
-ghost use lib.ListN.{length, take, drop};
+ghost use Prim.Native.Nat.{_/_, _<_};
+ghost use lib.ListN.{length};
 ghost use Rattle.walk.specs.Tables.{walkOf};
 ghost use Rattle.walk.specs.Turns.{rowsAfter, linesAfter, stepOf, concludedOf};
+use crate::rows::ROW;
+use crate::rows::put_row;
 use crate::tally::Tally;
 use crate::tally::begin;
 use crate::tally::turn;
@@ -14,25 +15,12 @@ use index::Listed;
 use index::Outcome;
 use index::Room;
 
-// Numbers of a row: section number, offset, length.
-const ROW: usize = 3;
-
 // How many lines stand in each table, how many messages were closed, and how the walk ended.
 pub struct Answer {
     pub sections: u64,
     pub submessages: u64,
     pub messages: u64,
     pub outcome: Outcome,
-}
-
-// Stores three numbers from index i on.
-fn put_row(rows: &mut [u64], i: usize, number: u64, offset: u64, octets: u64)
-    requires { ⌜ i + 3 ≤ length (now rows) ⌝ }
-    ensures { λ _. ⌜ now (rows .exit) ≡ take i (now (rows .entry)) ++ (number ∷ offset ∷ octets ∷ drop (i + 3) (now (rows .entry))) ⌝ }
-{
-    rows[i] = number;
-    rows[i + 1] = offset;
-    rows[i + 2] = octets;
 }
 
 // Stores the row of a section, if it was passed.
@@ -43,16 +31,15 @@ fn put_passed(rows: &mut [u64], passed: bool, s: Listed)
     if passed {
         let place = s.place;
         let section = s.section;
-        let offset = section.offset;
-        let i = place.0 as usize * ROW;
-        put_row(rows, i, section.number, offset.0, section.length);
+        put_row(rows, place.0, section);
     }
 }
 
-// One turn, with the row of the section that it passed stored; the line that is due is left to the caller.
+// One turn, with the row of the section that it passed stored; the line that is due is left to the
+// caller.
 fn step(file: &[u8], rows: &mut [u64], lines: usize, t: Tally) -> Tally
     ensures tally { λ r. ⌜ r ≡ stepOf (now (file .entry)) (length (now (rows .entry))) lines t ⌝ }
-    ensures table { λ r. ⌜ now (rows .exit) ≡ rowsAfter (r .passed) (r .last) (now (rows .entry)) ⌝ }
+    ensures table { λ r. ⌜ now (rows .exit) ≡ rowsAfter (r .passed) (r .last) (rows .entry .now) ⌝ }
 {
     let room = Room {
         rows: rows.len() as u64 / ROW as u64,
@@ -89,8 +76,8 @@ fn put_line(lines: &mut [Line], due: bool, slot: usize, line: Line)
     }
 }
 
-// Walks a file. The section table is lent as numbers, three to a row; one or two left over are no room. Lines that were
-// stored before a refusal stand, and room beyond the counts is untouched.
+// Walks a file. The section table is lent as numbers, three to a row; one or two left over are no
+// room. Lines that were stored before a refusal stand, and room beyond the counts is untouched.
 pub fn walk(file: &[u8], rows: &mut [u64], lines: &mut [Line]) -> Answer
     ensures answer { λ r. ⌜ r ≡ walkOf (now (file .entry)) (now (rows .entry)) (now (lines .entry)) .answer ⌝ }
     ensures rows { λ r. ⌜ now (rows .exit) ≡ walkOf (now (file .entry)) (now (rows .entry)) (now (lines .entry)) .rows ⌝ }

@@ -1,7 +1,9 @@
 // A turn of the walk, by value: what is reached, and what is due for the lent tables.
 ghost use mathlib.Core.Path.{_≡_};
 ghost use lib.ListN.{length};
-ghost use Rattle.walk.specs.Turns.{oneMore, unstarted, begunOf, freshOf, endedOf, refusedOf, toldOf, passedOf, fittedOf, takenOf, closedOf, misplacedOf, turnOf};
+ghost use Rattle.walk.specs.Turns.{oneMore, unstarted, begunOf, freshOf, endedOf, refusedOf};
+ghost use Rattle.walk.specs.Turns.{toldOf, passedOf, fittedOf, takenOf, closedOf};
+ghost use Rattle.walk.specs.Turns.{misplacedOf, turnOf};
 use framing::Offset;
 use framing::Section;
 use index::Force;
@@ -20,7 +22,7 @@ use order::Place;
 use order::completing;
 use reading::Reading;
 use reading::Seen;
-use reading::look;
+use reading::glance;
 use reading::start;
 
 pub(crate) struct Tally {
@@ -179,14 +181,14 @@ fn taken(room: Room, t: Tally, section: Section, next: Reading) -> Tally
 }
 
 // It closes the message: 13, then 14, both lines or neither.
-fn closed(room: Room, t: Tally, section: Section, next: Reading) -> Tally
-    ensures { λ r. ⌜ r ≡ closedOf room t section next ⌝ }
+fn closed(room: Room, t: Tally, end: Section, next: Reading) -> Tally
+    ensures { λ r. ⌜ r ≡ closedOf room t end next ⌝ }
 {
     if room.rows <= t.sections {
-        return refused(t, Refusal::SectionTableFull, section);
+        return refused(t, Refusal::SectionTableFull, end);
     }
     if room.lines <= t.lines {
-        return refused(t, Refusal::SubmessageTableFull, section);
+        return refused(t, Refusal::SubmessageTableFull, end);
     }
     let place = Place(t.sections);
     let force = t.force;
@@ -195,7 +197,10 @@ fn closed(room: Room, t: Tally, section: Section, next: Reading) -> Tally
         sections: one_more(t.sections),
         lines: one_more(t.lines),
         force: opened(one_more(force.message)),
-        last: Listed { place, section },
+        last: Listed {
+            place,
+            section: end,
+        },
         passed: true,
         due: true,
         slot: t.lines as usize,
@@ -206,18 +211,18 @@ fn closed(room: Room, t: Tally, section: Section, next: Reading) -> Tally
 }
 
 // It can't come next: 11, behind the submessage that it completes.
-fn misplaced(room: Room, t: Tally, section: Section) -> Tally
-    ensures { λ r. ⌜ r ≡ misplacedOf room t section ⌝ }
+fn misplaced(room: Room, t: Tally, stray: Section) -> Tally
+    ensures { λ r. ⌜ r ≡ misplacedOf room t stray ⌝ }
 {
     let reading = t.reading;
     let order = reading.order;
-    if completing(order, section.number) {
+    if completing(order, stray.number) {
         if room.lines <= t.lines {
-            return refused(t, Refusal::SubmessageTableFull, section);
+            return refused(t, Refusal::SubmessageTableFull, stray);
         }
-        return refused(told(t), Refusal::Misplaced(section.number), section);
+        return refused(told(t), Refusal::Misplaced(stray.number), stray);
     }
-    refused(t, Refusal::Misplaced(section.number), section)
+    refused(t, Refusal::Misplaced(stray.number), stray)
 }
 
 // One turn, with room for so many rows and lines.
@@ -225,7 +230,7 @@ pub(crate) fn turn(file: &[u8], room: Room, before: Tally) -> Tally
     ensures { λ r. ⌜ r ≡ turnOf (now (file .entry)) room before ⌝ }
 {
     let t = fresh(before);
-    let seen = look(file, before.reading);
+    let seen = glance(file, before.reading);
     match seen {
         Seen::Passes(section, next) => taken(room, t, section, next),
         Seen::Closes(section, next) => closed(room, t, section, next),

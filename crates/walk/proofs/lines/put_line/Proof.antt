@@ -1,6 +1,6 @@
 -- `put_line` meets its contract: a walk of its MIR, by hand, with two branches. Where a line is due and its slot is in the table,
 -- the borrow is opened, one element is taken out of the table and stored to, and the borrow is closed at the table with the line
--- in it. Else nothing changes. Assumes nothing.
+-- in it. Else nothing changes.
 use mathlib.Core.Path.{_≡_, refl, sym, ap, subst}
 use Prim.Native.Nat.{ℕ, _<_, _*_, _^_}
 use native.Mathlib.Omega.{arith}

@@ -1,22 +1,14 @@
--- `put_passed` meets its contract: the row is stored, or nothing changes. Assumes nothing.
+-- `put_passed` meets its contract: the row is stored, or nothing changes.
 use mathlib.Core.Path.{_∙_}
-use native.Mathlib.Omega.{arith}
 use borrow.Author.Needs.{needs}
 use Rattle.walk.specs.Turns.{rowsAfter}
 use Rattle.walk.proofs.lines.put_passed.Statement.{statement}
 use Rattle.walk.proofs.lines.put_passed.Tie as tie
 
-mul-i : tie.Need-mul-i
-mul-i c =
-    let taken = c .before .before .before in
-    let in-room = taken .before .before .pre (taken .if1 .taken) in
-    omega (arith, taken .before .before .good)
-
 put-row-requires : tie.Need-put-row-requires
 put-row-requires c κs =
-    let taken = c .before .before .before .before in
-    let in-room = taken .before .before .pre (taken .if1 .taken) in
-    omega arith
+    let taken = c .before .before .before in
+    taken .before .before .pre (taken .if1 .taken)
 
 same-length : tie.Need-same-length
 same-length c = search needs
@@ -25,12 +17,11 @@ returns : tie.Need-returns
 unfolding rowsAfter
 returns c =
     let put = c .before .before in
-    let taken = put .before .before .before .before .before in
-    put .put-row .ensures ∙ rw (taken .if1 .taken)
+    put .put-row .ensures ∙ rw (put .before .before .before .before .if1 .taken)
 
 returns-2 : tie.Need-returns-2
 unfolding rowsAfter
 returns-2 c = rw (c .if1 .left)
 
 pub put-passed-spec : {M : Type 1} → statement M
-put-passed-spec = tie.close (tie.spec mul-i put-row-requires same-length returns returns-2)
+put-passed-spec = tie.close (tie.spec put-row-requires same-length returns returns-2)

@@ -1,372 +1,316 @@
--- `walk_numbers` meets its contract: each section that is seen moves the walk on by one law of `Tables`, or ends it.
-use mathlib.Core.Path.{refl, sym, _∙_}
-use Prim.Native.Nat.{_-_}
+-- `walk_numbers` meets its contract: each section that is seen moves the walk on by one law of `InNumbers`, or ends it.
+use mathlib.Core.Path.{_≡_, sym, ap, _∙_}
+use mathlib.Core.Logic.{⊎-elim}
+use mathlib.Core.List.{List}
+use Prim.Native.Nat.{ℕ, _-_, _/_}
 use native.Mathlib.Omega.{arith}
 use lib.ListN.{length}
 use borrow.Author.Needs.{needs}
+use Rattle.index.specs.declared.bounds.Room.{Room}
+use Rattle.reading.specs.Reading.{seen}
+use Rattle.reading.specs.declared.Seen.the-variants.{Passes, Closes}
 use Rattle.reading.proofs.Moves.{passes-stands, passes-kept, closes-stands}
 use Rattle.walk.specs.Numbers.{lineNumbers}
+use Rattle.walk.specs.Standing.{unbegun}
+use Rattle.walk.specs.declared.standing.Standing.{Standing}
 use Rattle.walk.proofs.Lent as T
 use Rattle.walk.proofs.InNumbers as N
-use Rattle.walk.proofs.InNumbers.{Kept, finished, reachedIn, forceIn, in-force-local, in-force-kept, in-room, twelve}
+use Rattle.walk.proofs.InNumbers.{KeptAt, Passing, finished, in-force-local, in-force-kept, in-room, twelve}
 use Rattle.walk.proofs.numbers.walk_numbers.Statement.{statement}
 use Rattle.walk.proofs.numbers.walk_numbers.Tie as tie
 
 abbrev Inv-loop : tie.InvT-loop
-Inv-loop file rows₀ lines₀ room-rows room-lines cursor₀ order₀ message₀ submessage₀ local₀ places₀ place₀ told₀ last₀ rows lines cursor order message submessage local places place told last =
-    Kept file rows₀ lines₀ (reachedIn order place told last (forceIn message submessage local places)) cursor rows lines
+Inv-loop file rows₀ lines₀ room at₀ local₀ places₀ rows lines at local places = KeptAt file rows₀ lines₀ at local places rows lines
 
 abbrev μ-loop : tie.MeasureT-loop
-μ-loop file rows₀ lines₀ room-rows room-lines cursor₀ order₀ message₀ submessage₀ local₀ places₀ place₀ told₀ last₀ rows lines cursor order message submessage local places place told last =
-    length file - cursor .at .0
+μ-loop file rows₀ lines₀ room at₀ local₀ places₀ rows lines at local places = length file - at .reading .cursor .at .0
+
+-- what was lent
+abbrev file : tie.At-loop Inv-loop μ-loop → List ℕ
+file turn = turn .before .before .before .before .before .before .before .args .file .now
+
+abbrev rows₀ : tie.At-loop Inv-loop μ-loop → List ℕ
+rows₀ turn = turn .before .before .before .before .before .before .before .args .rows .now
+
+abbrev lines₀ : tie.At-loop Inv-loop μ-loop → List ℕ
+lines₀ turn = turn .before .before .before .before .before .before .before .args .lines .now
+
+-- the room in both tables
+rows-room : (turn : tie.At-loop Inv-loop μ-loop) → turn .before .before .room-in .result .rows ≡ length (rows₀ turn) / 3
+rows-room turn = ap (λ (room : Room). room .rows) (turn .before .before .room-in .ensures)
+
+lines-room : (turn : tie.At-loop Inv-loop μ-loop) → turn .before .before .room-in .result .lines ≡ length (lines₀ turn) / 12
+lines-room turn = ap (λ (room : Room). room .lines) (turn .before .before .room-in .ensures)
+
+-- a section that fits
+abbrev turn-of : tie.After-completes Inv-loop μ-loop → tie.At-loop Inv-loop μ-loop
+turn-of c = c .before .before .before .before .before
+
+sees : (c : tie.After-completes Inv-loop μ-loop)
+    → seen (file (turn-of c)) (turn-of c .loop .at .reading) ≡ Passes (c .before .before .seen .given .0 .0) (c .before .before .seen .given .0 .1 .0)
+sees c = sym (c .before .before .before .before .glance .ensures) ∙ c .before .before .seen .given .1
+
+-- .. once the line before it is told, where there is one
+passing : (c : tie.Joined2 Inv-loop μ-loop)
+    → let turn = turn-of (c .before) in
+    let s = c .before .before .before in
+    Passing (file turn) (rows₀ turn) (lines₀ turn) (c .if2 .at) (turn .loop .local) (turn .loop .places) (turn .loop .rows) (c .if2 .lines)
+    (s .seen .given .0 .0) (s .seen .given .0 .1 .0)
+passing c =
+    let turn = turn-of (c .before) in
+    let kept = turn .loop .inv in
+    let test = c .before .completes .ensures in
+    ⊎-elim
+    (λ w.
+    N.passing-behind _ _ _ kept (sees (c .before)) (sym test ∙ w .0 .taken) (omega (arith, w .3 .left, lines-room turn)) (w .11 ∙ w .9 .ensures)
+    (w .10 ∙ w .6 .ensures ∙ rw (w .5 .ensures)))
+    (λ w. N.passing-on _ _ _ kept (sees (c .before)) (sym test ∙ w .0 .left) (w .2) (w .1))
+    (c .if2 .came)
+
+-- the section 8 that closes its message
+abbrev closing-turn : tie.After-known-told2 Inv-loop μ-loop → tie.At-loop Inv-loop μ-loop
+closing-turn c = c .before .before .before .before
+
+sees-end : (c : tie.After-known-told2 Inv-loop μ-loop)
+    → seen (file (closing-turn c)) (closing-turn c .loop .at .reading) ≡ Closes (c .before .seen2 .given .0 .0) (c .before .seen2 .given .0 .1 .0)
+sees-end c = sym (c .before .before .before .glance .ensures) ∙ c .before .seen2 .given .1
 
 returns : tie.Need-returns Inv-loop μ-loop
 returns c =
-    let begin = (c .before .before .before .before .before) in
-    finished (begin .args .file .now) (begin .args .rows .now) (begin .args .lines .now) _ (T.too-long 12 lineNumbers twelve _ _ _ _ (in-room _) ((c .before) .if1 .taken)) refl (c .answer-of .ensures)
+    finished _ _ _ unbegun (T.too-long 12 lineNumbers twelve _ _ _ _ (in-room _) (c .before .if1 .taken)) (c .too-long .ensures)
 
 loop-holds : tie.Need-loop-holds Inv-loop μ-loop
 loop-holds c =
-    rw ((c .before .before) .start .ensures, c .unlisted .ensures) (T.begins 12 lineNumbers twelve _ _ _ _ (in-room _) ((c .before .before .before) .if1 .left))
+    rw (c .unbegun .ensures) (T.begins 12 lineNumbers twelve _ _ _ _ (in-room _) (c .before .before .if1 .left))
 
 same-length : tie.Need-same-length Inv-loop μ-loop
 same-length c =
-    (c .before .before .before .before .before .before .before .before .before) .loop .inv .same-rows
+    turn-of (c .before .before .before .before .before) .loop .inv .same-rows
 
 same-length-2 : tie.Need-same-length-2 Inv-loop μ-loop
 same-length-2 c =
-    (c .before .before .before .before .before .before .before .before .before) .loop .inv .same-lines
+    turn-of (c .before .before .before .before .before) .loop .inv .same-lines
 
 returns-2 : tie.Need-returns-2 Inv-loop μ-loop
 returns-2 c =
-    let begin = (c .before .before .before .before .before .before .before .before .before .before .before .before .before .before .before .before .before) in
-    let kept = (c .before .before .before .before .before .before .before .before .before) .loop .inv in
-    let e = sym ((c .before .before .before .before .before .before .before .before) .glance .ensures) ∙ (c .before .before .before .before .before .before) .seen .given .1 in
-    finished (begin .args .file .now) (begin .args .rows .now) (begin .args .lines .now) _ (T.no-line 12 lineNumbers twelve _ _ _ _ (in-room _) kept e (sym ((c .before .before .before .before) .completing .ensures) ∙ (c .before .before .before) .if2 .taken) ((c .before .before) .if3 .taken)) ((c .before) .refused .ensures) (c .answer-of2 .ensures)
+    let full = c .before in
+    let asked = full .before .before .before in
+    let turn = turn-of (asked .before) in
+    finished _ _ _ (turn .loop .at)
+    (T.no-line 12 lineNumbers twelve _ _ _ _ (in-room _) (turn .loop .inv) (sees (asked .before)) (sym (asked .before .completes .ensures) ∙ asked .if2 .taken)
+    (omega (arith, full .if3 .taken, lines-room turn)))
+    (c .refused .ensures)
 
 put-line-requires : tie.Need-put-line-requires Inv-loop μ-loop
 put-line-requires c κs =
-    rw ((c .before .before .before .before .before .before .before .before .before .before) .loop .inv .same-lines) ((c .before .before .before) .if3 .left)
+    let free = c .before .before in
+    let turn = turn-of (free .before .before .before .before) in
+    rw (turn .loop .inv .same-lines) (omega (arith, free .if3 .left, lines-room turn))
 
-add-told : tie.Need-add-told Inv-loop μ-loop
-add-told c =
-    omega (arith, (c .before .before .before .before .before .before) .if3 .left, (c .before .before .before .before .before .before .before .before .before .before .before .before .before .before .before .before .before .before .before .before .before) .good)
+told-line-requires : tie.Need-told-line-requires Inv-loop μ-loop
+told-line-requires c κs =
+    let free = c .before .before .before .before .before in
+    let turn = turn-of (free .before .before .before .before) in
+    let kept = turn .loop .inv in
+    let good = turn .before .before .before .before .before .before .before .good in
+    (omega (arith, free .if3 .left, lines-room turn, good), omega (arith, free .if3 .left, lines-room turn, kept .submessages, good))
 
 same-length-3 : tie.Need-same-length-3 Inv-loop μ-loop
 same-length-3 c =
-    (c .before .before .before .before .before .before .before .before .before .before .before .before .before .before .before .before) .loop .inv .same-rows
+    passing (c .before .before .before .before) .kept .same-rows
 
 same-length-4 : tie.Need-same-length-4 Inv-loop μ-loop
 same-length-4 c =
-    omega (arith, (c .before .before .before .before) .lines .given, (c .before .before .before .before .before .before .before .before .before .before .before .before .before .before .before .before) .loop .inv .same-lines)
+    passing (c .before .before .before .before) .kept .same-lines
 
 returns-3 : tie.Need-returns-3 Inv-loop μ-loop
 returns-3 c =
-    let begin = (c .before .before .before .before .before .before .before .before .before .before .before .before .before .before .before .before .before .before .before .before .before .before .before .before) in
-    let kept = (c .before .before .before .before .before .before .before .before .before .before .before .before .before .before .before .before) .loop .inv in
-    let e = sym ((c .before .before .before .before .before .before .before .before .before .before .before .before .before .before .before) .glance .ensures) ∙ (c .before .before .before .before .before .before .before .before .before .before .before .before .before) .seen .given .1 in
-    finished (begin .args .file .now) (begin .args .rows .now) (begin .args .lines .now) _ (N.gone-on-no-row (begin .args .file .now) (begin .args .rows .now) (begin .args .lines .now) kept e (sym ((c .before .before .before .before .before .before .before .before .before .before .before) .completing .ensures) ∙ (c .before .before .before .before .before .before .before .before .before .before) .if2 .taken) ((c .before .before .before .before .before .before .before .before .before) .if3 .left) ((c .before .before .before .before .before) .put-line .ensures ∙ rw ((c .before .before .before .before .before .before) .line-of .ensures, (c .before .before .before .before .before .before .before) .force-of .ensures)) ((c .before .before) .if4 .taken)) ((c .before) .refused2 .ensures) (c .answer-of3 .ensures)
-
-add-submessage : tie.Need-add-submessage Inv-loop μ-loop
-add-submessage c =
-    omega (arith, (c .before .before .before .before .before .before .before .before .before .before .before .before .before .before) .loop .inv .submessages, (c .before .before .before .before .before .before .before) .if3 .left, (c .before .before .before .before .before .before .before .before .before .before .before .before .before .before .before .before .before .before .before .before .before .before) .good)
+    let joined = c .before .before .before .before in
+    let p = passing joined in
+    finished _ _ _ (joined .if2 .at)
+    (T.no-row 12 lineNumbers twelve _ _ _ _ (in-room _) (p .kept) (p .sees) (p .alone) (omega (arith, c .before .if4 .taken, rows-room (turn-of (joined .before)))))
+    (c .refused2 .ensures)
 
 put-row-requires : tie.Need-put-row-requires Inv-loop μ-loop
 put-row-requires c κs =
-    rw ((c .before .before .before .before .before .before .before .before .before .before .before .before .before .before .before) .loop .inv .same-rows) ((c .before) .if4 .left)
+    let joined = c .before .before .before .before in
+    rw (passing joined .kept .same-rows) (omega (arith, c .before .if4 .left, rows-room (turn-of (joined .before))))
 
-add-place : tie.Need-add-place Inv-loop μ-loop
-add-place c =
-    omega (arith, (c .before .before .before .before) .if4 .left, (c .before .before .before .before .before .before .before .before .before .before .before .before .before .before .before .before .before .before .before .before .before .before .before .before .before .before) .good)
+passed-row-requires : tie.Need-passed-row-requires Inv-loop μ-loop
+passed-row-requires c κs =
+    let joined = c .before .before .before .before .before .before .before in
+    let turn = turn-of (joined .before) in
+    omega (arith, c .before .before .before .before .if4 .left, rows-room turn, turn .before .before .before .before .before .before .before .good)
 
 loop-less : tie.Need-loop-less Inv-loop μ-loop
 loop-less c =
-    let begin = (c .before .before .before .before .before .before .before .before .before .before .before .before .before .before .before .before .before .before .before .before .before .before .before .before .before .before .before .before .before) in
-    let kept = (c .before .before .before .before .before .before .before .before .before .before .before .before .before .before .before .before .before .before .before .before .before) .loop .inv in
-    let e = sym ((c .before .before .before .before .before .before .before .before .before .before .before .before .before .before .before .before .before .before .before .before) .glance .ensures) ∙ (c .before .before .before .before .before .before .before .before .before .before .before .before .before .before .before .before .before .before) .seen .given .1 in
-    let m = passes-stands _ _ e in
-    omega (arith, m .inside, m .forward, m .later)
+    let joined = c .before .before .before .before .before .before .before .before .before .before in
+    let stands = passes-stands _ _ (sees (joined .before)) in
+    omega (arith, stands .inside, stands .forward, stands .later, ap (λ (r : Standing). r .reading .cursor .at .0) (c .before .before .passed-row .ensures))
 
 loop-again : tie.Need-loop-again Inv-loop μ-loop
 loop-again c =
-    let begin = (c .before .before .before .before .before .before .before .before .before .before .before .before .before .before .before .before .before .before .before .before .before .before .before .before .before .before .before .before .before) in
-    let kept = (c .before .before .before .before .before .before .before .before .before .before .before .before .before .before .before .before .before .before .before .before .before) .loop .inv in
-    let e = sym ((c .before .before .before .before .before .before .before .before .before .before .before .before .before .before .before .before .before .before .before .before) .glance .ensures) ∙ (c .before .before .before .before .before .before .before .before .before .before .before .before .before .before .before .before .before .before) .seen .given .1 in
-    N.gone-on-passed (begin .args .file .now) (begin .args .rows .now) (begin .args .lines .now) kept (in-force-local _ _ _ _ _ _ (c .if5 .taken)) e (sym ((c .before .before .before .before .before .before .before .before .before .before .before .before .before .before .before .before) .completing .ensures) ∙ (c .before .before .before .before .before .before .before .before .before .before .before .before .before .before .before) .if2 .taken) ((c .before .before .before .before .before .before .before .before .before .before .before .before .before .before) .if3 .left) ((c .before .before .before .before .before .before .before .before .before .before) .put-line .ensures ∙ rw ((c .before .before .before .before .before .before .before .before .before .before .before) .line-of .ensures, (c .before .before .before .before .before .before .before .before .before .before .before .before) .force-of .ensures)) ((c .before .before .before .before .before .before .before) .if4 .left) ((c .before .before .before .before .before) .put-row .ensures)
+    let joined = c .before .before .before .before .before .before .before .before .before .before in
+    let p = passing joined in
+    N.passed _ _ _ p (omega (arith, c .before .before .before .before .before .before .before .if4 .left, rows-room (turn-of (joined .before))))
+    (in-force-local (joined .if2 .at) _ _ _ _ (c .if5 .taken)) (c .before .before .passed-row .ensures) (c .before .before .before .before .before .put-row .ensures)
 
 mul-places : tie.Need-mul-places Inv-loop μ-loop
 mul-places c =
-    let begin = (c .before .before .before .before .before .before .before .before .before .before .before .before .before .before .before .before .before .before .before .before .before .before .before .before .before .before .before .before .before) in
-    let kept = (c .before .before .before .before .before .before .before .before .before .before .before .before .before .before .before .before .before .before .before .before .before) .loop .inv in
-    let e = sym ((c .before .before .before .before .before .before .before .before .before .before .before .before .before .before .before .before .before .before .before .before) .glance .ensures) ∙ (c .before .before .before .before .before .before .before .before .before .before .before .before .before .before .before .before .before .before) .seen .given .1 in
-    omega (arith, passes-kept _ _ e)
+    omega (arith, passes-kept _ _ (passing (c .before .before .before .before .before .before .before .before .before .before) .sees))
 
 array-set-from-places : tie.Need-array-set-from-places Inv-loop μ-loop
 array-set-from-places c =
-    let begin = (c .before .before .before .before .before .before .before .before .before .before .before .before .before .before .before .before .before .before .before .before .before .before .before .before .before .before .before .before .before) in
-    let kept = (c .before .before .before .before .before .before .before .before .before .before .before .before .before .before .before .before .before .before .before .before .before) .loop .inv in
-    let e = sym ((c .before .before .before .before .before .before .before .before .before .before .before .before .before .before .before .before .before .before .before .before) .glance .ensures) ∙ (c .before .before .before .before .before .before .before .before .before .before .before .before .before .before .before .before .before .before) .seen .given .1 in
-    passes-kept _ _ e
+    passes-kept _ _ (passing (c .before .before .before .before .before .before .before .before .before .before) .sees)
 
 loop-less-2 : tie.Need-loop-less-2 Inv-loop μ-loop
 loop-less-2 c =
-    let begin = (c .before .before .before .before .before .before .before .before .before .before .before .before .before .before .before .before .before .before .before .before .before .before .before .before .before .before .before .before .before) in
-    let kept = (c .before .before .before .before .before .before .before .before .before .before .before .before .before .before .before .before .before .before .before .before .before) .loop .inv in
-    let e = sym ((c .before .before .before .before .before .before .before .before .before .before .before .before .before .before .before .before .before .before .before .before) .glance .ensures) ∙ (c .before .before .before .before .before .before .before .before .before .before .before .before .before .before .before .before .before .before) .seen .given .1 in
-    let m = passes-stands _ _ e in
-    omega (arith, m .inside, m .forward, m .later)
+    let joined = c .before .before .before .before .before .before .before .before .before .before in
+    let stands = passes-stands _ _ (sees (joined .before)) in
+    omega (arith, stands .inside, stands .forward, stands .later, ap (λ (r : Standing). r .reading .cursor .at .0) (c .before .before .passed-row .ensures))
 
 loop-again-2 : tie.Need-loop-again-2 Inv-loop μ-loop
 loop-again-2 c =
-    let begin = (c .before .before .before .before .before .before .before .before .before .before .before .before .before .before .before .before .before .before .before .before .before .before .before .before .before .before .before .before .before) in
-    let kept = (c .before .before .before .before .before .before .before .before .before .before .before .before .before .before .before .before .before .before .before .before .before) .loop .inv in
-    let e = sym ((c .before .before .before .before .before .before .before .before .before .before .before .before .before .before .before .before .before .before .before .before) .glance .ensures) ∙ (c .before .before .before .before .before .before .before .before .before .before .before .before .before .before .before .before .before .before) .seen .given .1 in
-    N.gone-on-passed (begin .args .file .now) (begin .args .rows .now) (begin .args .lines .now) kept (in-force-kept _ _ _ _ _ _ (c .if5 .left) (passes-kept _ _ e)) e (sym ((c .before .before .before .before .before .before .before .before .before .before .before .before .before .before .before .before) .completing .ensures) ∙ (c .before .before .before .before .before .before .before .before .before .before .before .before .before .before .before) .if2 .taken) ((c .before .before .before .before .before .before .before .before .before .before .before .before .before .before) .if3 .left) ((c .before .before .before .before .before .before .before .before .before .before) .put-line .ensures ∙ rw ((c .before .before .before .before .before .before .before .before .before .before .before) .line-of .ensures, (c .before .before .before .before .before .before .before .before .before .before .before .before) .force-of .ensures)) ((c .before .before .before .before .before .before .before) .if4 .left) ((c .before .before .before .before .before) .put-row .ensures)
+    let joined = c .before .before .before .before .before .before .before .before .before .before in
+    let p = passing joined in
+    N.passed _ _ _ p (omega (arith, c .before .before .before .before .before .before .before .if4 .left, rows-room (turn-of (joined .before))))
+    (in-force-kept (joined .if2 .at) _ _ _ _ (c .if5 .left) (passes-kept _ _ (p .sees))) (c .before .before .passed-row .ensures) (c .before .before .before .before .before .put-row .ensures)
 
 same-length-5 : tie.Need-same-length-5 Inv-loop μ-loop
 same-length-5 c =
-    (c .before .before .before .before .before .before .before .before .before) .loop .inv .same-rows
+    closing-turn (c .before .before .before .before) .loop .inv .same-rows
 
 same-length-6 : tie.Need-same-length-6 Inv-loop μ-loop
 same-length-6 c =
-    (c .before .before .before .before .before .before .before .before .before) .loop .inv .same-lines
+    closing-turn (c .before .before .before .before) .loop .inv .same-lines
 
 returns-4 : tie.Need-returns-4 Inv-loop μ-loop
 returns-4 c =
-    let begin = (c .before .before .before .before .before .before .before .before .before .before .before .before .before .before .before .before .before) in
-    let kept = (c .before .before .before .before .before .before .before .before .before) .loop .inv in
-    let e = sym ((c .before .before .before .before .before .before .before .before) .glance .ensures) ∙ (c .before .before .before .before .before .before) .seen .given .1 in
-    finished (begin .args .file .now) (begin .args .rows .now) (begin .args .lines .now) _ (T.no-row 12 lineNumbers twelve _ _ _ _ (in-room _) kept e (sym ((c .before .before .before .before) .completing .ensures) ∙ (c .before .before .before) .if2 .left) ((c .before .before) .if6 .taken)) ((c .before) .refused3 .ensures) (c .answer-of4 .ensures)
-
-put-row-requires-2 : tie.Need-put-row-requires-2 Inv-loop μ-loop
-put-row-requires-2 c κs =
-    rw ((c .before .before .before .before .before .before .before .before) .loop .inv .same-rows) ((c .before) .if6 .left)
-
-add-place-2 : tie.Need-add-place-2 Inv-loop μ-loop
-add-place-2 c =
-    omega (arith, (c .before .before .before .before) .if6 .left, (c .before .before .before .before .before .before .before .before .before .before .before .before .before .before .before .before .before .before .before) .good)
-
-loop-less-3 : tie.Need-loop-less-3 Inv-loop μ-loop
-loop-less-3 c =
-    let begin = (c .before .before .before .before .before .before .before .before .before .before .before .before .before .before .before .before .before .before .before .before .before .before) in
-    let kept = (c .before .before .before .before .before .before .before .before .before .before .before .before .before .before) .loop .inv in
-    let e = sym ((c .before .before .before .before .before .before .before .before .before .before .before .before .before) .glance .ensures) ∙ (c .before .before .before .before .before .before .before .before .before .before .before) .seen .given .1 in
-    let m = passes-stands _ _ e in
-    omega (arith, m .inside, m .forward, m .later)
-
-loop-again-3 : tie.Need-loop-again-3 Inv-loop μ-loop
-loop-again-3 c =
-    let begin = (c .before .before .before .before .before .before .before .before .before .before .before .before .before .before .before .before .before .before .before .before .before .before) in
-    let kept = (c .before .before .before .before .before .before .before .before .before .before .before .before .before .before) .loop .inv in
-    let e = sym ((c .before .before .before .before .before .before .before .before .before .before .before .before .before) .glance .ensures) ∙ (c .before .before .before .before .before .before .before .before .before .before .before) .seen .given .1 in
-    N.passed (begin .args .file .now) (begin .args .rows .now) (begin .args .lines .now) kept (in-force-local _ _ _ _ _ _ (c .if7 .taken)) e (sym ((c .before .before .before .before .before .before .before .before .before) .completing .ensures) ∙ (c .before .before .before .before .before .before .before .before) .if2 .left) ((c .before .before .before .before .before .before .before) .if6 .left) ((c .before .before .before .before .before) .put-row2 .ensures)
-
-mul-places-2 : tie.Need-mul-places-2 Inv-loop μ-loop
-mul-places-2 c =
-    let begin = (c .before .before .before .before .before .before .before .before .before .before .before .before .before .before .before .before .before .before .before .before .before .before) in
-    let kept = (c .before .before .before .before .before .before .before .before .before .before .before .before .before .before) .loop .inv in
-    let e = sym ((c .before .before .before .before .before .before .before .before .before .before .before .before .before) .glance .ensures) ∙ (c .before .before .before .before .before .before .before .before .before .before .before) .seen .given .1 in
-    omega (arith, passes-kept _ _ e)
-
-array-set-from-places-2 : tie.Need-array-set-from-places-2 Inv-loop μ-loop
-array-set-from-places-2 c =
-    let begin = (c .before .before .before .before .before .before .before .before .before .before .before .before .before .before .before .before .before .before .before .before .before .before) in
-    let kept = (c .before .before .before .before .before .before .before .before .before .before .before .before .before .before) .loop .inv in
-    let e = sym ((c .before .before .before .before .before .before .before .before .before .before .before .before .before) .glance .ensures) ∙ (c .before .before .before .before .before .before .before .before .before .before .before) .seen .given .1 in
-    passes-kept _ _ e
-
-loop-less-4 : tie.Need-loop-less-4 Inv-loop μ-loop
-loop-less-4 c =
-    let begin = (c .before .before .before .before .before .before .before .before .before .before .before .before .before .before .before .before .before .before .before .before .before .before) in
-    let kept = (c .before .before .before .before .before .before .before .before .before .before .before .before .before .before) .loop .inv in
-    let e = sym ((c .before .before .before .before .before .before .before .before .before .before .before .before .before) .glance .ensures) ∙ (c .before .before .before .before .before .before .before .before .before .before .before) .seen .given .1 in
-    let m = passes-stands _ _ e in
-    omega (arith, m .inside, m .forward, m .later)
-
-loop-again-4 : tie.Need-loop-again-4 Inv-loop μ-loop
-loop-again-4 c =
-    let begin = (c .before .before .before .before .before .before .before .before .before .before .before .before .before .before .before .before .before .before .before .before .before .before) in
-    let kept = (c .before .before .before .before .before .before .before .before .before .before .before .before .before .before) .loop .inv in
-    let e = sym ((c .before .before .before .before .before .before .before .before .before .before .before .before .before) .glance .ensures) ∙ (c .before .before .before .before .before .before .before .before .before .before .before) .seen .given .1 in
-    N.passed (begin .args .file .now) (begin .args .rows .now) (begin .args .lines .now) kept (in-force-kept _ _ _ _ _ _ (c .if7 .left) (passes-kept _ _ e)) e (sym ((c .before .before .before .before .before .before .before .before .before) .completing .ensures) ∙ (c .before .before .before .before .before .before .before .before) .if2 .left) ((c .before .before .before .before .before .before .before) .if6 .left) ((c .before .before .before .before .before) .put-row2 .ensures)
+    let known = c .before .before .before .before in
+    let turn = closing-turn known in
+    finished _ _ _ (turn .loop .at)
+    (T.no-row-closing 12 lineNumbers twelve _ _ _ _ (in-room _) (turn .loop .inv) (sees-end known) (omega (arith, c .before .if6 .taken, rows-room turn)))
+    (c .refused3 .ensures)
 
 same-length-7 : tie.Need-same-length-7 Inv-loop μ-loop
 same-length-7 c =
-    (c .before .before .before .before .before .before .before) .loop .inv .same-rows
+    closing-turn (c .before .before .before .before .before .before .before) .loop .inv .same-rows
 
 same-length-8 : tie.Need-same-length-8 Inv-loop μ-loop
 same-length-8 c =
-    (c .before .before .before .before .before .before .before) .loop .inv .same-lines
+    closing-turn (c .before .before .before .before .before .before .before) .loop .inv .same-lines
 
 returns-5 : tie.Need-returns-5 Inv-loop μ-loop
 returns-5 c =
-    let begin = (c .before .before .before .before .before .before .before .before .before .before .before .before .before .before .before) in
-    let kept = (c .before .before .before .before .before .before .before) .loop .inv in
-    let e = sym ((c .before .before .before .before .before .before) .glance .ensures) ∙ (c .before .before .before .before) .seen2 .given .1 in
-    finished (begin .args .file .now) (begin .args .rows .now) (begin .args .lines .now) _ (T.no-row-closing 12 lineNumbers twelve _ _ _ _ (in-room _) kept e ((c .before .before) .if8 .taken)) ((c .before) .refused4 .ensures) (c .answer-of5 .ensures)
+    let known = c .before .before .before .before .before .before .before in
+    let turn = closing-turn known in
+    finished _ _ _ (turn .loop .at)
+    (T.no-line-closing 12 lineNumbers twelve _ _ _ _ (in-room _) (turn .loop .inv) (sees-end known) (omega (arith, c .before .before .before .before .if6 .left, rows-room turn))
+    (omega (arith, c .before .if7 .taken, lines-room turn)))
+    (c .refused4 .ensures)
 
-same-length-9 : tie.Need-same-length-9 Inv-loop μ-loop
-same-length-9 c =
-    (c .before .before .before .before .before .before .before .before) .loop .inv .same-rows
-
-same-length-10 : tie.Need-same-length-10 Inv-loop μ-loop
-same-length-10 c =
-    (c .before .before .before .before .before .before .before .before) .loop .inv .same-lines
-
-returns-6 : tie.Need-returns-6 Inv-loop μ-loop
-returns-6 c =
-    let begin = (c .before .before .before .before .before .before .before .before .before .before .before .before .before .before .before .before) in
-    let kept = (c .before .before .before .before .before .before .before .before) .loop .inv in
-    let e = sym ((c .before .before .before .before .before .before .before) .glance .ensures) ∙ (c .before .before .before .before .before) .seen2 .given .1 in
-    finished (begin .args .file .now) (begin .args .rows .now) (begin .args .lines .now) _ (T.no-line-closing 12 lineNumbers twelve _ _ _ _ (in-room _) kept e ((c .before .before .before) .if8 .left) ((c .before .before) .if9 .taken)) ((c .before) .refused5 .ensures) (c .answer-of6 .ensures)
-
-put-row-requires-3 : tie.Need-put-row-requires-3 Inv-loop μ-loop
-put-row-requires-3 c κs =
-    rw ((c .before .before .before .before .before .before .before) .loop .inv .same-rows) ((c .before .before) .if8 .left)
+put-row-requires-2 : tie.Need-put-row-requires-2 Inv-loop μ-loop
+put-row-requires-2 c κs =
+    let turn = closing-turn (c .before .before .before .before .before .before .before) in
+    rw (turn .loop .inv .same-rows) (omega (arith, c .before .before .before .before .if6 .left, rows-room turn))
 
 put-line-requires-2 : tie.Need-put-line-requires-2 Inv-loop μ-loop
 put-line-requires-2 c κs =
-    rw ((c .before .before .before .before .before .before .before .before .before .before .before .before .before) .loop .inv .same-lines) ((c .before .before .before .before .before .before .before) .if9 .left)
+    let turn = closing-turn (c .before .before .before .before .before .before .before .before .before .before .before .before) in
+    rw (turn .loop .inv .same-lines) (omega (arith, c .before .before .before .before .before .before .if7 .left, lines-room turn))
 
-add-place-3 : tie.Need-add-place-3 Inv-loop μ-loop
-add-place-3 c =
-    omega (arith, (c .before .before .before .before .before .before .before .before .before .before .before) .if8 .left, (c .before .before .before .before .before .before .before .before .before .before .before .before .before .before .before .before .before .before .before .before .before .before .before .before) .good)
+closed-both-requires : tie.Need-closed-both-requires Inv-loop μ-loop
+closed-both-requires c κs =
+    let turn = closing-turn (c .before .before .before .before .before .before .before .before .before .before .before .before .before .before .before) in
+    let kept = turn .loop .inv in
+    let row = c .before .before .before .before .before .before .before .before .before .before .before .before .if6 .left in
+    let line = c .before .before .before .before .before .before .before .before .before .if7 .left in
+    let good = turn .before .before .before .before .before .before .before .good in
+    (omega (arith, row, rows-room turn, good), (omega (arith, line, lines-room turn, good), omega (arith, line, lines-room turn, kept .messages, good)))
 
-add-told-2 : tie.Need-add-told-2 Inv-loop μ-loop
-add-told-2 c =
-    omega (arith, (c .before .before .before .before .before .before .before .before .before .before) .if9 .left, (c .before .before .before .before .before .before .before .before .before .before .before .before .before .before .before .before .before .before .before .before .before .before .before .before) .good)
+loop-less-3 : tie.Need-loop-less-3 Inv-loop μ-loop
+loop-less-3 c =
+    let stands = closes-stands _ _ (sees-end (c .before .before .before .before .before .before .before .before .before .before .before .before .before .before .before .before)) in
+    omega (arith, stands .inside, stands .forward, stands .later, ap (λ (r : Standing). r .reading .cursor .at .0) (c .closed-both .ensures))
 
-add-message : tie.Need-add-message Inv-loop μ-loop
-add-message c =
-    omega (arith, (c .before .before .before .before .before .before .before .before .before .before .before .before .before .before .before .before) .loop .inv .messages, (c .before .before .before .before .before .before .before .before .before .before) .if9 .left, (c .before .before .before .before .before .before .before .before .before .before .before .before .before .before .before .before .before .before .before .before .before .before .before .before) .good)
+loop-again-3 : tie.Need-loop-again-3 Inv-loop μ-loop
+loop-again-3 c =
+    let known = c .before .before .before .before .before .before .before .before .before .before .before .before .before .before .before .before in
+    let turn = closing-turn known in
+    N.closed _ _ _ (turn .loop .inv) (sees-end known) (omega (arith, c .before .before .before .before .before .before .before .before .before .before .before .before .before .if6 .left, rows-room turn))
+    (omega (arith, c .before .before .before .before .before .before .before .before .before .before .if7 .left, lines-room turn)) (c .closed-both .ensures) (c .before .before .before .before .before .before .before .before .put-row2 .ensures)
+    (c .before .before .before .put-line2 .ensures ∙ rw (c .before .before .before .before .closed-line .ensures))
 
-loop-less-5 : tie.Need-loop-less-5 Inv-loop μ-loop
-loop-less-5 c =
-    let begin = (c .before .before .before .before .before .before .before .before .before .before .before .before .before .before .before .before .before .before .before .before .before .before .before .before .before) in
-    let kept = (c .before .before .before .before .before .before .before .before .before .before .before .before .before .before .before .before .before) .loop .inv in
-    let e = sym ((c .before .before .before .before .before .before .before .before .before .before .before .before .before .before .before .before) .glance .ensures) ∙ (c .before .before .before .before .before .before .before .before .before .before .before .before .before .before) .seen2 .given .1 in
-    let m = closes-stands _ _ e in
-    omega (arith, m .inside, m .forward, m .later)
+misplaced-requires : tie.Need-misplaced-requires Inv-loop μ-loop
+misplaced-requires c κs =
+    c .before .before .before .before .before .before .loop .inv .submessages
 
-loop-again-5 : tie.Need-loop-again-5 Inv-loop μ-loop
-loop-again-5 c =
-    let begin = (c .before .before .before .before .before .before .before .before .before .before .before .before .before .before .before .before .before .before .before .before .before .before .before .before .before) in
-    let kept = (c .before .before .before .before .before .before .before .before .before .before .before .before .before .before .before .before .before) .loop .inv in
-    let e = sym ((c .before .before .before .before .before .before .before .before .before .before .before .before .before .before .before .before) .glance .ensures) ∙ (c .before .before .before .before .before .before .before .before .before .before .before .before .before .before) .seen2 .given .1 in
-    N.closed (begin .args .file .now) (begin .args .rows .now) (begin .args .lines .now) kept e ((c .before .before .before .before .before .before .before .before .before .before .before .before) .if8 .left) ((c .before .before .before .before .before .before .before .before .before .before .before) .if9 .left) ((c .before .before .before .before .before .before .before .before .before) .put-row3 .ensures) ((c .before .before .before) .put-line2 .ensures ∙ rw ((c .before .before .before .before) .line-of2 .ensures, (c .before .before .before .before .before) .force-of2 .ensures))
+same-length-9 : tie.Need-same-length-9 Inv-loop μ-loop
+same-length-9 c =
+    c .before .before .before .before .before .before .before .before .before .loop .inv .same-rows
+
+same-length-10 : tie.Need-same-length-10 Inv-loop μ-loop
+same-length-10 c =
+    omega (arith, c .before .lines3 .given, c .before .before .before .before .before .before .before .before .before .loop .inv .same-lines)
+
+returns-6 : tie.Need-returns-6 Inv-loop μ-loop
+returns-6 c =
+    let told = c .before .before in
+    let turn = c .before .before .before .before .before .before .before .before .before in
+    N.misplaced _ _ _ (turn .loop .inv) (sym (c .before .before .before .before .before .before .before .before .glance .ensures) ∙ c .before .before .before .before .before .before .seen3 .given .1) (told .misplaced .ensures .0)
+    (told .misplaced .ensures .1 ∙ rw (c .before .before .before .before .open-line2 .ensures))
 
 same-length-11 : tie.Need-same-length-11 Inv-loop μ-loop
 same-length-11 c =
-    (c .before .before .before .before .before .before .before .before .before) .loop .inv .same-rows
+    c .before .before .before .before .before .loop .inv .same-rows
 
 same-length-12 : tie.Need-same-length-12 Inv-loop μ-loop
 same-length-12 c =
-    (c .before .before .before .before .before .before .before .before .before) .loop .inv .same-lines
+    c .before .before .before .before .before .loop .inv .same-lines
 
 returns-7 : tie.Need-returns-7 Inv-loop μ-loop
 returns-7 c =
-    let begin = (c .before .before .before .before .before .before .before .before .before .before .before .before .before .before .before .before .before) in
-    let kept = (c .before .before .before .before .before .before .before .before .before) .loop .inv in
-    let e = sym ((c .before .before .before .before .before .before .before .before) .glance .ensures) ∙ (c .before .before .before .before .before .before) .seen3 .given .1 in
-    finished (begin .args .file .now) (begin .args .rows .now) (begin .args .lines .now) _ (T.no-line-misplaced 12 lineNumbers twelve _ _ _ _ (in-room _) kept e (sym ((c .before .before .before .before) .completing2 .ensures) ∙ (c .before .before .before) .if10 .taken) ((c .before .before) .if11 .taken)) ((c .before) .refused6 .ensures) (c .answer-of7 .ensures)
-
-put-line-requires-3 : tie.Need-put-line-requires-3 Inv-loop μ-loop
-put-line-requires-3 c κs =
-    rw ((c .before .before .before .before .before .before .before .before .before .before) .loop .inv .same-lines) ((c .before .before .before) .if11 .left)
-
-add-answer-of : tie.Need-add-answer-of Inv-loop μ-loop
-add-answer-of c =
-    omega (arith, (c .before .before .before .before .before .before) .if11 .left, (c .before .before .before .before .before .before .before .before .before .before .before .before .before .before .before .before .before .before .before .before .before) .good)
+    let turn = c .before .before .before .before .before in
+    finished _ _ _ (turn .loop .at) (T.no-grid 12 lineNumbers twelve _ _ _ _ (in-room _) (turn .loop .inv) (sym (c .before .before .before .before .glance .ensures) ∙ c .before .before .seen4 .given .1)) (c .refused5 .ensures)
 
 same-length-13 : tie.Need-same-length-13 Inv-loop μ-loop
 same-length-13 c =
-    (c .before .before .before .before .before .before .before .before .before .before .before .before .before .before .before) .loop .inv .same-rows
+    c .before .before .before .before .loop .inv .same-rows
 
 same-length-14 : tie.Need-same-length-14 Inv-loop μ-loop
 same-length-14 c =
-    omega (arith, (c .before .before .before) .lines3 .given, (c .before .before .before .before .before .before .before .before .before .before .before .before .before .before .before) .loop .inv .same-lines)
+    c .before .before .before .before .loop .inv .same-lines
 
 returns-8 : tie.Need-returns-8 Inv-loop μ-loop
 returns-8 c =
-    let begin = (c .before .before .before .before .before .before .before .before .before .before .before .before .before .before .before .before .before .before .before .before .before .before .before) in
-    let kept = (c .before .before .before .before .before .before .before .before .before .before .before .before .before .before .before) .loop .inv in
-    let e = sym ((c .before .before .before .before .before .before .before .before .before .before .before .before .before .before) .glance .ensures) ∙ (c .before .before .before .before .before .before .before .before .before .before .before .before) .seen3 .given .1 in
-    finished (begin .args .file .now) (begin .args .rows .now) (begin .args .lines .now) _ (N.misplaced-line (begin .args .file .now) (begin .args .rows .now) (begin .args .lines .now) kept e (sym ((c .before .before .before .before .before .before .before .before .before .before) .completing2 .ensures) ∙ (c .before .before .before .before .before .before .before .before .before) .if10 .taken) ((c .before .before .before .before .before .before .before .before) .if11 .left) ((c .before .before .before .before) .put-line3 .ensures ∙ rw ((c .before .before .before .before .before) .line-of3 .ensures, (c .before .before .before .before .before .before) .force-of3 .ensures))) ((c .before) .refused7 .ensures) (c .answer-of8 .ensures)
+    let turn = c .before .before .before .before in
+    finished _ _ _ (turn .loop .at) (T.clean 12 lineNumbers twelve _ _ _ _ (in-room _) (turn .loop .inv) (sym (c .before .before .before .glance .ensures) ∙ c .before .enum-told .given .1)) (c .ended .ensures)
 
 same-length-15 : tie.Need-same-length-15 Inv-loop μ-loop
 same-length-15 c =
-    (c .before .before .before .before .before .before .before .before) .loop .inv .same-rows
+    c .before .before .before .before .loop .inv .same-rows
 
 same-length-16 : tie.Need-same-length-16 Inv-loop μ-loop
 same-length-16 c =
-    (c .before .before .before .before .before .before .before .before) .loop .inv .same-lines
+    c .before .before .before .before .loop .inv .same-lines
 
 returns-9 : tie.Need-returns-9 Inv-loop μ-loop
 returns-9 c =
-    let begin = (c .before .before .before .before .before .before .before .before .before .before .before .before .before .before .before .before) in
-    let kept = (c .before .before .before .before .before .before .before .before) .loop .inv in
-    let e = sym ((c .before .before .before .before .before .before .before) .glance .ensures) ∙ (c .before .before .before .before .before) .seen3 .given .1 in
-    finished (begin .args .file .now) (begin .args .rows .now) (begin .args .lines .now) _ (T.misplaced 12 lineNumbers twelve _ _ _ _ (in-room _) kept e (sym ((c .before .before .before) .completing2 .ensures) ∙ (c .before .before) .if10 .left)) ((c .before) .refused8 .ensures) (c .answer-of9 .ensures)
+    let turn = c .before .before .before .before in
+    finished _ _ _ (turn .loop .at) (T.input-over 12 lineNumbers twelve _ _ _ _ (in-room _) (turn .loop .inv) (sym (c .before .before .before .glance .ensures) ∙ c .before .enum-told2 .given .1)) (c .input-over .ensures)
 
 same-length-17 : tie.Need-same-length-17 Inv-loop μ-loop
 same-length-17 c =
-    (c .before .before .before .before .before .before) .loop .inv .same-rows
+    c .before .before .before .before .before .loop .inv .same-rows
 
 same-length-18 : tie.Need-same-length-18 Inv-loop μ-loop
 same-length-18 c =
-    (c .before .before .before .before .before .before) .loop .inv .same-lines
+    c .before .before .before .before .before .loop .inv .same-lines
 
 returns-10 : tie.Need-returns-10 Inv-loop μ-loop
 returns-10 c =
-    let begin = (c .before .before .before .before .before .before .before .before .before .before .before .before .before .before) in
-    let kept = (c .before .before .before .before .before .before) .loop .inv in
-    let e = sym ((c .before .before .before .before .before) .glance .ensures) ∙ (c .before .before .before) .seen4 .given .1 in
-    finished (begin .args .file .now) (begin .args .rows .now) (begin .args .lines .now) _ (T.no-grid 12 lineNumbers twelve _ _ _ _ (in-room _) kept e) ((c .before) .refused9 .ensures) (c .answer-of10 .ensures)
-
-same-length-19 : tie.Need-same-length-19 Inv-loop μ-loop
-same-length-19 c =
-    (c .before .before .before .before) .loop .inv .same-rows
-
-same-length-20 : tie.Need-same-length-20 Inv-loop μ-loop
-same-length-20 c =
-    (c .before .before .before .before) .loop .inv .same-lines
-
-returns-11 : tie.Need-returns-11 Inv-loop μ-loop
-returns-11 c =
-    let begin = (c .before .before .before .before .before .before .before .before .before .before .before .before) in
-    let kept = (c .before .before .before .before) .loop .inv in
-    let e = sym ((c .before .before .before) .glance .ensures) ∙ (c .before) .enum-told .given .1 in
-    finished (begin .args .file .now) (begin .args .rows .now) (begin .args .lines .now) _ (T.clean 12 lineNumbers twelve _ _ _ _ (in-room _) kept e) refl (c .answer-of11 .ensures)
-
-same-length-21 : tie.Need-same-length-21 Inv-loop μ-loop
-same-length-21 c =
-    (c .before .before .before .before .before .before .before) .loop .inv .same-rows
-
-same-length-22 : tie.Need-same-length-22 Inv-loop μ-loop
-same-length-22 c =
-    (c .before .before .before .before .before .before .before) .loop .inv .same-lines
-
-returns-12 : tie.Need-returns-12 Inv-loop μ-loop
-returns-12 c =
-    let begin = (c .before .before .before .before .before .before .before .before .before .before .before .before .before .before .before) in
-    let kept = (c .before .before .before .before .before .before .before) .loop .inv in
-    let e = sym ((c .before .before .before .before .before .before) .glance .ensures) ∙ (c .before .before .before .before) .enum-told2 .given .1 in
-    finished (begin .args .file .now) (begin .args .rows .now) (begin .args .lines .now) _ (T.input-over 12 lineNumbers twelve _ _ _ _ (in-room _) kept e) ((c .before) .refused10 .ensures) (c .answer-of12 .ensures)
-
-same-length-23 : tie.Need-same-length-23 Inv-loop μ-loop
-same-length-23 c =
-    (c .before .before .before .before .before) .loop .inv .same-rows
-
-same-length-24 : tie.Need-same-length-24 Inv-loop μ-loop
-same-length-24 c =
-    (c .before .before .before .before .before) .loop .inv .same-lines
-
-returns-13 : tie.Need-returns-13 Inv-loop μ-loop
-returns-13 c =
-    let begin = (c .before .before .before .before .before .before .before .before .before .before .before .before .before) in
-    let kept = (c .before .before .before .before .before) .loop .inv in
-    let e = sym ((c .before .before .before .before) .glance .ensures) ∙ (c .before .before) .seen5 .given .1 in
-    finished (begin .args .file .now) (begin .args .rows .now) (begin .args .lines .now) _ (T.unreadable 12 lineNumbers twelve _ _ _ _ (in-room _) kept e) refl (c .answer-of13 .ensures)
+    let turn = c .before .before .before .before .before in
+    finished _ _ _ (turn .loop .at) (T.unreadable 12 lineNumbers twelve _ _ _ _ (in-room _) (turn .loop .inv) (sym (c .before .before .before .before .glance .ensures) ∙ c .before .before .seen5 .given .1)) (c .unreadable .ensures)
 
 pub walk-numbers-spec : {M : Type 1} → statement M
 walk-numbers-spec =
@@ -383,101 +327,62 @@ walk-numbers-spec =
     (λ c. search needs)
     (λ c κs. search needs)
     (λ c κs. search needs)
-    (λ c κs. search needs)
     same-length
     same-length-2
     returns-2
     (λ c κs. search needs)
-    (λ c κs. search needs)
     put-line-requires
-    add-told
-    (λ c κs. search needs)
+    told-line-requires
     (λ c κs. search needs)
     same-length-3
     same-length-4
     returns-3
-    add-submessage
     put-row-requires
-    add-place
+    passed-row-requires
     loop-less
     loop-again
     mul-places
     array-set-from-places
     loop-less-2
     loop-again-2
-    (λ c κs. search needs)
+    (λ c. search needs)
     (λ c κs. search needs)
     same-length-5
     same-length-6
     returns-4
-    put-row-requires-2
-    add-place-2
-    loop-less-3
-    loop-again-3
-    mul-places-2
-    array-set-from-places-2
-    loop-less-4
-    loop-again-4
-    (λ c. search needs)
-    (λ c κs. search needs)
     (λ c κs. search needs)
     same-length-7
     same-length-8
     returns-5
+    put-row-requires-2
     (λ c κs. search needs)
+    put-line-requires-2
+    closed-both-requires
+    loop-less-3
+    loop-again-3
+    (λ c. search needs)
     (λ c κs. search needs)
+    misplaced-requires
     same-length-9
     same-length-10
     returns-6
-    put-row-requires-3
-    (λ c κs. search needs)
-    (λ c κs. search needs)
-    put-line-requires-2
-    add-place-3
-    add-told-2
-    add-message
-    loop-less-5
-    loop-again-5
     (λ c. search needs)
-    (λ c κs. search needs)
-    (λ c κs. search needs)
     (λ c κs. search needs)
     same-length-11
     same-length-12
     returns-7
-    (λ c κs. search needs)
-    (λ c κs. search needs)
-    put-line-requires-3
-    add-answer-of
-    (λ c κs. search needs)
+    (λ c. search needs)
     (λ c κs. search needs)
     same-length-13
     same-length-14
     returns-8
-    (λ c κs. search needs)
+    (λ c. search needs)
     (λ c κs. search needs)
     same-length-15
     same-length-16
     returns-9
     (λ c. search needs)
     (λ c κs. search needs)
-    (λ c κs. search needs)
     same-length-17
     same-length-18
-    returns-10
-    (λ c. search needs)
-    (λ c κs. search needs)
-    same-length-19
-    same-length-20
-    returns-11
-    (λ c. search needs)
-    (λ c κs. search needs)
-    (λ c κs. search needs)
-    same-length-21
-    same-length-22
-    returns-12
-    (λ c. search needs)
-    (λ c κs. search needs)
-    same-length-23
-    same-length-24
-    returns-13)
+    returns-10)

@@ -1,6 +1,6 @@
 -- A call of `put_line` with a table that is lent again for the call and comes back, as an entailment that a walk cites: from the
 -- table and its token the call runs, and when it has returned they are there again, with the line in the table if it was due.
--- The laws take `Given`. Assumes nothing.
+-- The laws take `Given`.
 use mathlib.Core.Path.{_≡_, refl, ap}
 use Prim.Native.Nat.{ℕ, _<_, _^_}
 use mathlib.Core.List.{[], _∷_, List}

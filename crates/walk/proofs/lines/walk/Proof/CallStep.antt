@@ -1,6 +1,6 @@
 -- A call of `step`, as an entailment that a walk cites: the file is lent as it is, the rows are lent again for the call and come
 -- back. From the two and their tokens the call runs, and when it has returned they are there again, with the rows changed.
--- The laws take `Given`. Assumes nothing.
+-- The laws take `Given`.
 use mathlib.Core.Path.{_≡_, refl, ap, subst, _∙_}
 use Prim.Native.Nat.{ℕ, _<_, _^_}
 use mathlib.Core.List.{[], _∷_, List}

@@ -1,5 +1,5 @@
 -- The four fields of the state that the loop reads out of its local: where each lies, and what is read there. Each is computed
--- once here, so that the walk need not. The laws take `Given`. Assumes nothing.
+-- once here, so that the walk need not. The laws take `Given`.
 use mathlib.Core.Path.{_≡_, refl, sym, subst}
 use Prim.Native.Nat.{ℕ, zero, _+_}
 use mathlib.Core.List.{List}

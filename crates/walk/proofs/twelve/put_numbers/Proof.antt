@@ -1,4 +1,4 @@
--- `put_numbers` meets its contract. The loop keeps that the numbers so far are stored. Assumes nothing.
+-- `put_numbers` meets its contract. The loop keeps that the numbers so far are stored.
 use Prim.Native.Nat.{ℕ, _+_, _-_, _≤_, _<_}
 use native.Mathlib.Omega.{arith}
 use native.Mathlib.Numerals.{add-one}
@@ -9,8 +9,8 @@ use lib.Seq.{length-take-le, take-suc, take-all}
 use borrow.Author.Needs.{needs}
 use Rattle.walk.proofs.Put.{put-none, put-more, put-one, put-length}
 use Rattle.walk.specs.Put.{putAt}
-use Rattle.walk.proofs.numbers.put_numbers.Statement.{statement}
-use Rattle.walk.proofs.numbers.put_numbers.Tie as tie
+use Rattle.walk.proofs.twelve.put_numbers.Statement.{statement}
+use Rattle.walk.proofs.twelve.put_numbers.Tie as tie
 
 record Stored (before : List ℕ) (at : ℕ) (numbers table : List ℕ) (i : ℕ) : Type 0 where
   within : i ≤ 12

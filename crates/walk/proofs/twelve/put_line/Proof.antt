@@ -2,8 +2,8 @@
 use mathlib.Core.Path.{_∙_}
 use native.Mathlib.Omega.{arith}
 use borrow.Author.Needs.{needs}
-use Rattle.walk.proofs.numbers.put_line.Statement.{statement}
-use Rattle.walk.proofs.numbers.put_line.Tie as tie
+use Rattle.walk.proofs.twelve.put_line.Statement.{statement}
+use Rattle.walk.proofs.twelve.put_line.Tie as tie
 
 returns : tie.Need-returns
 returns c = let put = c .before .before in put .put-numbers .ensures ∙ rw (put .before .line-numbers .ensures)

@@ -3,8 +3,8 @@ use native.Mathlib.Omega.{arith}
 use lib.ListN.{length-set}
 use borrow.Author.Needs.{needs}
 use Rattle.walk.proofs.Put.{three-at}
-use Rattle.walk.proofs.numbers.put_row.Statement.{statement}
-use Rattle.walk.proofs.numbers.put_row.Tie as tie
+use Rattle.walk.proofs.rows.put_row.Statement.{statement}
+use Rattle.walk.proofs.rows.put_row.Tie as tie
 
 returns : tie.Need-returns
 returns c = let a = c .before .args in three-at (a .rows .now) _ _ _ _ (omega (arith, c .before .pre))

@@ -1,8 +1,8 @@
--- `line_numbers` meets its contract: each number is the line's. Assumes nothing.
+-- `line_numbers` meets its contract: each number is the line's.
 use borrow.Author.Needs.{needs}
 use Rattle.walk.specs.Numbers.{lineNumbers}
-use Rattle.walk.proofs.numbers.line_numbers.Statement.{statement}
-use Rattle.walk.proofs.numbers.line_numbers.Tie as tie
+use Rattle.walk.proofs.twelve.line_numbers.Statement.{statement}
+use Rattle.walk.proofs.twelve.line_numbers.Tie as tie
 
 pub line-numbers-spec : {M : Type 1} → statement M
 unfolding lineNumbers
