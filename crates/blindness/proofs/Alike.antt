@@ -1,5 +1,4 @@
--- Two files of one length: their listings are equal where no octet that is read differs, and what both have of each section. Assumes
--- nothing.
+-- Two files of one length: their listings are equal where no octet that is read differs, and what both have of each section.
 use Prim.Native.Nat.{ℕ, zero, suc, _+_, _-_, _≤_, _<_}
 use native.Mathlib.Omega.{arith}
 use mathlib.Core.Path.{_≡_, refl, sym, ap, subst, _∙_}
@@ -10,7 +9,7 @@ use lib.ListN.{length, getD}
 use borrow.Author.Tests.{ltb-true, ltb-false}
 use Rattle.framing.specs.Search.{startsAt, IsNextStart, nextStart}
 use Rattle.framing.specs.Framing.{messageAt, readAt}
-use Rattle.framing.specs.Listing.{Listing, over, before, listed, listingFrom}
+use Rattle.framing.specs.Listing.{Listing, over, before, listedBy, listingFrom}
 use Rattle.framing.specs.declared.search.Found.the-variants.{At, Nowhere}
 use Rattle.framing.specs.declared.read.Section.{Section as Row}
 use Rattle.framing.specs.declared.read.Cursor.{Cursor}
@@ -60,7 +59,7 @@ no-start (heads G o) k a b there = omega arith
 
 -- one read, and what is listed after it
 abbrev then : ℕ → List ℕ → Read → Listing
-then n f read = listed read (λ a r. listingFrom n f a r)
+then n f read = listedBy read (λ a r. listingFrom n f a r)
 
 module _ (terms : Terms) (spared : Spared terms) (f g : List ℕ) (same : length f ≡ length g) where
   -- an octet that is read of a section is no values octet of it or of a later one

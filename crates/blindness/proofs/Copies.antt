@@ -1,4 +1,4 @@
--- The octets of a public copy. Assumes nothing.
+-- The octets of a public copy.
 use Prim.Native.Nat.{ℕ, zero, suc, _+_}
 use native.Mathlib.Nat.{add-zero, zero-add}
 use native.Mathlib.Omega.{arith}
@@ -6,7 +6,7 @@ use mathlib.Core.Path.{_≡_, refl, ap, _∙_}
 use mathlib.Core.Bool.{Bool, true, false}
 use mathlib.Core.List.{List, [], _∷_}
 use lib.ListN.{length, getD}
-use Rattle.octets.specs.Choice.{pick}
+use Rattle.octets.specs.Words.{pick}
 use Rattle.framing.specs.declared.read.Section.{Section}
 use Rattle.index.specs.Bounds.{unlimited}
 use Rattle.index.specs.Walk.{walked}

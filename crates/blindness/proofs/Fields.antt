@@ -17,17 +17,17 @@ use Rattle.sections.specs.BitMap.{bitMapOf}
 use Rattle.framing.specs.declared.read.Section.{Section}
 use Rattle.publish.specs.Values.{Terms, inStretch, inSpan, inMessage}
 use Rattle.blindness.specs.Agree.{
-  octetsOf,
+  ownOctets,
   payloadOf,
   productSectionOf,
   fieldsOf,
   decoded,
-  indicator,
-  identification,
-  gridDefinition,
-  productSection,
-  reprDefinition,
-  bitMap,
+  ofIndicator,
+  ofIdentification,
+  ofGrid,
+  ofProduct,
+  ofRepresentation,
+  ofBitMap,
 }
 use Rattle.blindness.proofs.Spared.{Each, Still, Spared}
 use Rattle.blindness.proofs.Reading.{same-pick, every-octet, be-agree}
@@ -71,22 +71,22 @@ module _ (s t : List ℕ) (same : length s ≡ length t) where
 
 module _ (terms : Terms) (spared : Spared terms) (f g : List ℕ) (same : length f ≡ length g) where
   module _ (s : Section) (seen : Seen terms f g s) where
-    octets-length : length (octetsOf f s) ≡ length (octetsOf g s)
-    unfolding octetsOf
+    octets-length : length (ownOctets f s) ≡ length (ownOctets g s)
+    unfolding ownOctets
     octets-length = simp (length-take, length-drop, same)
 
-    octets-short : length (octetsOf f s) ≤ s .length
-    unfolding octetsOf
+    octets-short : length (ownOctets f s) ≤ s .length
+    unfolding ownOctets
     octets-short = simp length-take (omega arith)
 
-    octet-of : (h : List ℕ) (i : ℕ) → i < s .length → getD (octetsOf h s) i 0 ≡ getD h (s .offset .0 + i) 0
-    unfolding octetsOf
+    octet-of : (h : List ℕ) (i : ℕ) → i < s .length → getD (ownOctets h s) i 0 ≡ getD h (s .offset .0 + i) 0
+    unfolding ownOctets
     octet-of h i a = getD-take (s .length) (drop (s .offset .0) h) i 0 a ∙ getD-drop (s .offset .0) h i 0
 
     -- an octet of the section that is no value
-    octet-same : (i : ℕ) → inStretch (terms (s .number)) i ≡ false → getD (octetsOf f s) i 0 ≡ getD (octetsOf g s) i 0
+    octet-same : (i : ℕ) → inStretch (terms (s .number)) i ≡ false → getD (ownOctets f s) i 0 ≡ getD (ownOctets g s) i 0
     octet-same i h =
-        every-octet (octetsOf f s) (octetsOf g s) octets-length i (λ a.
+        every-octet (ownOctets f s) (ownOctets g s) octets-length i (λ a.
         let b : i < s .length = omega (arith, octets-short) in octet-of f i b ∙ seen .same-octet i b h ∙ sym (octet-of g i b))
 
     payload-length : length (payloadOf f s) ≡ length (payloadOf g s)
@@ -95,7 +95,7 @@ module _ (terms : Terms) (spared : Spared terms) (f g : List ℕ) (same : length
 
     payload-same : (i : ℕ) → inStretch (terms (s .number)) (5 + i) ≡ false → getD (payloadOf f s) i 0 ≡ getD (payloadOf g s) i 0
     unfolding payloadOf
-    payload-same i h = getD-drop 5 (octetsOf f s) i 0 ∙ octet-same (5 + i) h ∙ sym (getD-drop 5 (octetsOf g s) i 0)
+    payload-same i h = getD-drop 5 (ownOctets f s) i 0 ∙ octet-same (5 + i) h ∙ sym (getD-drop 5 (ownOctets g s) i 0)
 
     -- octets of the payload, from a look
     payload-still : (number first last : ℕ) → s .number ≡ number → Still terms number first last → (from to : ℕ) → first ≤ from + 6
@@ -104,31 +104,31 @@ module _ (terms : Terms) (spared : Spared terms) (f g : List ℕ) (same : length
         payload-same i (rw e (still (5 + i) (omega arith) (omega arith)))
 
     octets-still : (number first last : ℕ) → s .number ≡ number → Still terms number first last → (from to : ℕ) → first ≤ from + 1
-        → to ≤ last → Same (octetsOf f s) (octetsOf g s) from to
+        → to ≤ last → Same (ownOctets f s) (ownOctets g s) from to
     octets-still number first last e still from to p q i a b = octet-same i (rw e (still i (omega arith) (omega arith)))
 
     pub fields-same : fieldsOf f s ≡ fieldsOf g s
     unfolding fieldsOf
     fields-same =
         same-pick (eqb n 0)
-        (λ e. ap indicator (indicator-same (octetsOf f s) (octetsOf g s) octets-length
+        (λ e. ap ofIndicator (indicator-same (ownOctets f s) (ownOctets g s) octets-length
         (octets-still 0 7 7 (eqb-true n 0 e) (spared .discipline) 6 7 (omega arith) (omega arith))
         (octets-still 0 8 16 (eqb-true n 0 e) (spared .total) 8 16 (omega arith) (omega arith)))) λ _.
         same-pick (eqb n 1)
-        (λ e. ap identification (identification-same p q payload-length
+        (λ e. ap ofIdentification (identification-same p q payload-length
         (payload-still 1 6 21 (eqb-true n 1 e) (spared .identification) 0 16 (omega arith) (omega arith)))) λ _.
         same-pick (eqb n 3)
-        (λ e. ap gridDefinition (grid-same p q payload-length
+        (λ e. ap ofGrid (grid-same p q payload-length
         (payload-still 3 7 10 (eqb-true n 3 e) (spared .grid-points) 1 5 (omega arith) (omega arith))
         (payload-still 3 13 14 (eqb-true n 3 e) (spared .grid-template) 7 9 (omega arith) (omega arith)))) λ _.
         same-pick (eqb n 4)
-        (λ e. ap productSection (product-same p q payload-length
+        (λ e. ap ofProduct (product-same p q payload-length
         (λ i. payload-same i (rw (eqb-true n 4 e) (spared .product (5 + i) (omega arith)))))) λ _.
         same-pick (eqb n 5)
-        (λ e. ap reprDefinition (representation-same p q payload-length
+        (λ e. ap ofRepresentation (representation-same p q payload-length
         (payload-still 5 6 11 (eqb-true n 5 e) (spared .representation) 0 6 (omega arith) (omega arith)))) λ _.
         same-pick (eqb n 6)
-        (λ e. ap bitMap (bit-map-same p q payload-length
+        (λ e. ap ofBitMap (bit-map-same p q payload-length
         (payload-still 6 6 6 (eqb-true n 6 e) (spared .bit-map) 0 1 (omega arith) (omega arith)))) λ _. refl
       where
         n : ℕ

@@ -1,4 +1,4 @@
--- Where the octets of a listing's sections and messages are: those of a later read are at later places. Assumes nothing.
+-- Where the octets of a listing's sections and messages are: those of a later read are at later places.
 use Prim.Native.Nat.{ℕ, zero, suc, _+_, _-_, _≤_, _<_}
 use native.Mathlib.Omega.{arith}
 use native.Mathlib.Nat.{add-assoc}
@@ -10,7 +10,7 @@ use lib.ListN.{length}
 use borrow.Author.Tests.{lt-ltb, le-ltb, le-leb, lt-leb, eq-eqb, ne-eqb}
 use Rattle.octets.specs.BigEndian.{beAt}
 use Rattle.framing.specs.Framing.{readAt}
-use Rattle.framing.specs.Listing.{listed, listingFrom}
+use Rattle.framing.specs.Listing.{listedBy, listingFrom}
 use Rattle.framing.specs.declared.read.Section.{Section as Row}
 use Rattle.framing.specs.declared.read.Cursor.{Cursor}
 use Rattle.framing.specs.Read.{Read}
@@ -70,7 +70,7 @@ module _ (f : List ℕ) where
   values-below terms (suc n) at rest k h = go (readAt f at rest) (reads f at rest) (λ a r. values-below terms n a r k)
     where
       go : (read : Read) → Reads f at rest read → ((a r : ℕ) → k < a → isValue terms (listingFrom n f a r .sections) k ≡ false)
-          → isValue terms (listed read (λ a r. listingFrom n f a r) .sections) k ≡ false
+          → isValue terms (listedBy read (λ a r. listingFrom n f a r) .sections) k ≡ false
       go (Section s next) told ih =
           let G = goes told in
           or-neither (carries-below terms s k (omega arith)) (ih (next .at .0) (next .rest) (omega arith))
@@ -83,7 +83,7 @@ module _ (f : List ℕ) where
   messages-below (suc n) at rest k h = go (readAt f at rest) (reads f at rest) (λ a r. messages-below n a r k)
     where
       go : (read : Read) → Reads f at rest read → ((a r : ℕ) → k < a → inMessage f (listingFrom n f a r .sections) k ≡ false)
-          → inMessage f (listed read (λ a r. listingFrom n f a r) .sections) k ≡ false
+          → inMessage f (listedBy read (λ a r. listingFrom n f a r) .sections) k ≡ false
       go (Section s next) told ih =
           let G = goes told in
           or-neither

@@ -1,4 +1,4 @@
--- Two files of one length: what is read alike of both, where the octets that a read looks at are equal. Assumes nothing.
+-- Two files of one length: what is read alike of both, where the octets that a read looks at are equal.
 use Prim.Native.Nat.{ℕ, zero, suc, _+_, _≤_, _<_}
 use native.Mathlib.Omega.{arith}
 use native.Mathlib.Nat.{le-refl}
@@ -8,7 +8,7 @@ use mathlib.Core.List.{List}
 use lib.Dec.{leb, ltb, eqb}
 use lib.ListN.{length, getD, List·getD-eq-default}
 use borrow.Author.Tests.{ltb-true, ltb-false, eqb-true, eqb-false, le-leb, ne-eqb}
-use Rattle.octets.specs.Choice.{pick}
+use Rattle.octets.specs.Words.{pick}
 use Rattle.octets.specs.BigEndian.{beAt}
 use Rattle.framing.specs.Search.{says, startsAt, IsNextStart, nextStart}
 use Rattle.framing.specs.Framing.{indicatorAt, endAt, headerAt, messageAt, readAt}

@@ -30,16 +30,16 @@ use Rattle.publish.specs.Values.{Terms, inStretch, inSpan, carries, licensed, i
 use Rattle.publish.specs.Copy.{stays, blankedFrom, publicCopy}
 use Rattle.blindness.specs.Looks.{changed}
 use Rattle.blindness.specs.Agree.{
-  octetsOf,
+  ownOctets,
   payloadOf,
-  Fields,
-  indicator,
-  identification,
-  gridDefinition,
-  productSection,
-  reprDefinition,
-  bitMap,
-  none,
+  SectionFields,
+  ofIndicator,
+  ofIdentification,
+  ofGrid,
+  ofProduct,
+  ofRepresentation,
+  ofBitMap,
+  ofNone,
   fieldsOf,
   decoded,
   Agree,
@@ -96,14 +96,14 @@ abbrev indicatorIn : MaybeBitMap → ℕ
 indicatorIn (bits.Fields b) = b .indicator
 indicatorIn bits.NoBitMap = 0
 
-abbrev numberIn : Fields → ℕ
-numberIn (reprDefinition r) = templateIn r
-numberIn (bitMap b) = indicatorIn b
-numberIn (indicator i) = 0
-numberIn (identification i) = 0
-numberIn (gridDefinition g) = 0
-numberIn (productSection p) = 0
-numberIn none = 0
+abbrev numberIn : SectionFields → ℕ
+numberIn (ofRepresentation r) = templateIn r
+numberIn (ofBitMap b) = indicatorIn b
+numberIn (ofIndicator i) = 0
+numberIn (ofIdentification i) = 0
+numberIn (ofGrid g) = 0
+numberIn (ofProduct p) = 0
+numberIn ofNone = 0
 
 -- 0 of a clean end
 abbrev ended : Outcome → ℕ
@@ -114,7 +114,7 @@ pub samples-alike : SamplesAlike
 unfolding sampleOf walked walkedFrom concluded judgement byOrder fitted closing judged completes isBetween inForce
     listing listingFrom readAt messageAt indicatorAt endAt headerAt payloadAt isCut nextStart startAmong startsAt says
     beAt leastPayloadOf valuesOf kindOf kinds isValue carries inStretch inSpan licensed changed publicCopy blankedFrom
-    stays inMessage differOnly octetsOf payloadOf fieldsOf decoded bitMapOf reprDefinitionOf
+    stays inMessage differOnly ownOctets payloadOf fieldsOf decoded bitMapOf reprDefinitionOf
 samples-alike =
     record {
       clean = refl;
@@ -127,7 +127,7 @@ pub nothing-less : NothingLess
 unfolding sampleOf walked walkedFrom concluded judgement byOrder fitted closing judged completes isBetween inForce
     listing listingFrom readAt messageAt indicatorAt endAt headerAt payloadAt isCut nextStart startAmong startsAt says
     beAt leastPayloadOf valuesOf kindOf kinds isValue carries inStretch inSpan licensed changed publicCopy blankedFrom
-    stays inMessage differOnly octetsOf payloadOf fieldsOf decoded bitMapOf reprDefinitionOf
+    stays inMessage differOnly ownOctets payloadOf fieldsOf decoded bitMapOf reprDefinitionOf
 nothing-less =
     record {
       length-needed = λ e. let z : _≡_ {A = ℕ} 0 9 = ap (λ (l : Listing). length (l .sections)) e in omega arith;
@@ -137,11 +137,11 @@ nothing-less =
       );
       five-leaks = (
         agree-of _ (sampleOf 2 0 255 7 1) (sampleOf 2 3 255 7 1) refl,
-        λ o. let z : _≡_ {A = ℕ} 0 3 = ap (λ (l : List Fields). numberIn (getD l 5 none)) (o .one-decoding unlimited) in omega arith,
+        λ o. let z : _≡_ {A = ℕ} 0 3 = ap (λ (l : List SectionFields). numberIn (getD l 5 ofNone)) (o .one-decoding unlimited) in omega arith,
       );
       six-leaks = (
         agree-of _ (sampleOf 2 0 255 7 1) (sampleOf 2 0 254 7 1) refl,
-        λ o. let z : _≡_ {A = ℕ} 255 254 = ap (λ (l : List Fields). numberIn (getD l 6 none)) (o .one-decoding unlimited) in omega arith,
+        λ o. let z : _≡_ {A = ℕ} 255 254 = ap (λ (l : List SectionFields). numberIn (getD l 6 ofNone)) (o .one-decoding unlimited) in omega arith,
       );
       seven-leaks = (
         agree-of _ (sampleOf 2 0 255 7 1) (sampleOf 2 0 255 6 1) refl,

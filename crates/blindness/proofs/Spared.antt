@@ -1,4 +1,4 @@
--- What the test tells of terms: which octets of which sections are no values. Assumes nothing.
+-- What the test tells of terms: which octets of which sections are no values.
 use Prim.Native.Nat.{ℕ, zero, suc, _+_, _≤_}
 use native.Mathlib.Omega.{arith}
 use mathlib.Core.Path.{_≡_, refl}

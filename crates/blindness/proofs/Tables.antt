@@ -1,4 +1,4 @@
--- A walk that ends clean with some room is the walk with room for all: no file has as many sections. Assumes nothing.
+-- A walk that ends clean with some room is the walk with room for all: no file has as many sections.
 use Prim.Native.Nat.{ℕ, zero, suc, _+_, _*_, _≤_, _<_}
 use native.Mathlib.Omega.{arith}
 use mathlib.Core.Path.{_≡_, refl}
@@ -7,13 +7,13 @@ use mathlib.Core.List.{List, [], _∷_}
 use lib.Dec.{ltb, leb}
 use lib.ListN.{length}
 use borrow.Author.Tests.{ltb-false, lt-leb}
-use Rattle.octets.specs.Choice.{pick}
+use Rattle.octets.specs.Words.{pick}
 use Rattle.order.specs.Order.{judged, completes}
 use Rattle.order.specs.declared.Order.the-variants.{SubmessageStart}
 use Rattle.order.specs.declared.Judged.{Judged}
 use Rattle.order.specs.declared.Judged.the-variants.{Fits, Closes, Misplaced, NoGrid}
 use Rattle.framing.specs.Framing.{readAt}
-use Rattle.framing.specs.Listing.{Ending, listed, listingFrom, listing}
+use Rattle.framing.specs.Listing.{Ending, listedBy, listingFrom, listing}
 use Rattle.framing.specs.declared.read.Section.{Section as Row}
 use Rattle.framing.specs.Read.{Read}
 use Rattle.framing.specs.Read.{Section, Over, Refused}
@@ -128,7 +128,7 @@ listed-few f zero at rest = omega arith
 listed-few f (suc n) at rest = go (readAt f at rest) (listed-few f n)
   where
     go : (read : Read) → ((a r : ℕ) → length (listingFrom n f a r .sections) ≤ n)
-        → length (listed read (λ a r. listingFrom n f a r) .sections) ≤ suc n
+        → length (listedBy read (λ a r. listingFrom n f a r) .sections) ≤ suc n
     go (Section s next) ih = let p = ih (next .at .0) (next .rest) in omega arith
     go Over ih = omega arith
     go (Refused fault offset) ih = omega arith

@@ -1,11 +1,11 @@
--- From a listing to a walk: a walk lists the listing's first sections, and all of them where it ends clean. Assumes nothing.
+-- From a listing to a walk: a walk lists the listing's first sections, and all of them where it ends clean.
 use Prim.Native.Nat.{ℕ}
 use mathlib.Core.Path.{_≡_, refl, sym, ap, subst}
 use mathlib.Core.Bool.{false}
 use mathlib.Core.List.{List, [], _∷_}
 use lib.Dec.{ltb}
 use lib.ListN.{length}
-use Rattle.framing.specs.Listing.{Ending, over, refused, listing}
+use Rattle.framing.specs.Listing.{Ending, over, unreadable, listing}
 use Rattle.framing.specs.declared.read.Section.{Section}
 use Rattle.framing.proofs.Tests.{by-test, or-neither}
 use Rattle.index.specs.declared.refusal.Outcome.{Outcome}
@@ -66,7 +66,7 @@ module _ (room : Room) where
       → (walkedFrom room r sections ending .sections ≡ sections) × (ending ≡ over)
   unfolding walkedFrom concluded
   all-from r [] over h = (refl, refl)
-  all-from r [] (refused fault offset) h = absurd (is-clean h)
+  all-from r [] (unreadable fault offset) h = absurd (is-clean h)
   all-from r (s ∷ more) ending h = go (judgement room r s) h (λ reached. all-from reached more ending)
     where
       go : (j : Judgement) → followed r s j (λ reached. walkedFrom room reached more ending) .outcome ≡ Clean

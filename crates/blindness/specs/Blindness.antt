@@ -1,5 +1,6 @@
--- Demand 3: nothing that is listed, told, decoded or copied depends on a values octet, and a public copy is as good as its file (01,
--- "Values octets and the public copy"). Statements only: `proofs/Theorems.antt` has their proofs. Assumes nothing.
+-- Demand 3: nothing that is listed, told, decoded or copied depends on a values octet, and a public
+-- copy is as good as its file (01, "Values octets and the public copy"). Statements only:
+-- `proofs/Theorems.antt` has their proofs.
 use Prim.Native.Nat.{ℕ, _<_}
 use mathlib.Core.Bool.{true, false}
 use mathlib.Core.List.{List}
@@ -17,12 +18,14 @@ use Rattle.publish.specs.Copy.{stays, publicCopy, copyOf}
 use Rattle.blindness.specs.Looks.{isBlind, changed, fourStretches, sixStretches}
 use Rattle.blindness.specs.Agree.{decoded, Alike, AlikeLent}
 
--- two files are one to every reader: sections, lines, counts and end answer, with any tables; decoded fields; the public copy and its call
+-- two files are one to every reader: sections, lines, counts and end answer, with any tables;
+-- decoded fields; the public copy and its call
 pub record One (terms : Terms) (f g : List ℕ) : Type 0 where
   pub one-listing : listing f ≡ listing g
   pub one-walk : (room : Room) → walked room f ≡ walked room g
   pub one-tables : (rows : List ℕ) (lines : List Line) → walkOf f rows lines ≡ walkOf g rows lines
-  pub one-decoding : (room : Room) → decoded f (walked room f .sections) ≡ decoded g (walked room g .sections)
+  pub one-decoding : (room : Room)
+      → decoded f (walked room f .sections) ≡ decoded g (walked room g .sections)
   pub one-copy : walked unlimited f .outcome ≡ Clean → publicCopy terms f ≡ publicCopy terms g
   pub one-call : (dest : List ℕ) → copyOf terms f dest ≡ copyOf terms g dest
 
@@ -31,25 +34,32 @@ pub record Public (terms : Terms) (f copy : List ℕ) : Type 0 where
   pub copy-length : length copy ≡ length f
   pub copy-listing : listing copy ≡ listing f
   pub copy-walk : (room : Room) → walked room copy ≡ walked room f
-  pub copy-tables : (rows : List ℕ) (lines : List Line) → walkOf copy rows lines ≡ walkOf f rows lines
-  pub copy-decoding : (room : Room) → decoded copy (walked room copy .sections) ≡ decoded f (walked room f .sections)
+  pub copy-tables : (rows : List ℕ) (lines : List Line)
+      → walkOf copy rows lines ≡ walkOf f rows lines
+  pub copy-decoding : (room : Room)
+      → decoded copy (walked room copy .sections) ≡ decoded f (walked room f .sections)
   pub copy-octet : (k : ℕ) → k < length f → inMessage f (walked unlimited f .sections) k ≡ true
       → isValue terms (walked unlimited f .sections) k ≡ false → getD copy k 0 ≡ getD f k 0
-  pub copy-zero : (k : ℕ) → stays terms f (walked unlimited f .sections) k ≡ false → getD copy k 0 ≡ 0
+  pub copy-zero : (k : ℕ) → stays terms f (walked unlimited f .sections) k ≡ false
+      → getD copy k 0 ≡ 0
 
 -- files that differ in values octets only are one, under every terms that pass the test ..
 abbrev pub Blindness : Type 0
-Blindness = (terms : Terms) → isBlind terms ≡ true → (f g : List ℕ) → Alike terms f g → One terms f g
+Blindness =
+    (terms : Terms) → isBlind terms ≡ true → (f g : List ℕ) → Alike terms f g → One terms f g
 
 -- .. also where values octets are only those of the sections that lent tables list
 abbrev pub LentBlindness : Type 0
 LentBlindness =
-    (terms : Terms) → isBlind terms ≡ true → (rows : List ℕ) (lines : List Line) (f g : List ℕ) → AlikeLent terms rows lines f g
+    (terms : Terms) → isBlind terms ≡ true → (rows : List ℕ) (lines : List Line) (f g : List ℕ)
+    → AlikeLent terms rows lines f g
     → One terms f g
 
--- a walk that ends clean with lent tables is the walk with room for all of it: what is said of the one holds of the other
+-- a walk that ends clean with lent tables is the walk with room for all of it: what is said of the
+-- one holds of the other
 abbrev pub CleanNeedsNoMore : Type 0
-CleanNeedsNoMore = (room : Room) (f : List ℕ) → walked room f .outcome ≡ Clean → walked room f ≡ walked unlimited f
+CleanNeedsNoMore =
+    (room : Room) (f : List ℕ) → walked room f .outcome ≡ Clean → walked room f ≡ walked unlimited f
 
 -- the public copy of a file that walks clean
 abbrev pub PublicCopies : Type 0

@@ -6,7 +6,7 @@ use mathlib.Core.Bool.{Bool, false, not, _&&_, _||_}
 use mathlib.Core.List.{List}
 use lib.Dec.{ltb, leb, eqb}
 use lib.ListN.{length, getD}
-use Rattle.octets.specs.Choice.{pick}
+use Rattle.octets.specs.Words.{pick}
 use Rattle.octets.specs.BigEndian.{beAt}
 use Rattle.sections.specs.Kinds.{
   headerSize,
@@ -44,31 +44,31 @@ use Rattle.framing.specs.Read.{Read}
 use Rattle.framing.specs.Read.{Section, Over, Refused}
 
 -- a section, and where the next read is made: at its end, with so many octets of the message left
-abbrev pub section : ℕ → ℕ → ℕ → ℕ → Read
-section number at len rest =
+abbrev pub sectionAt : ℕ → ℕ → ℕ → ℕ → Read
+sectionAt number at len rest =
     Section
     (record { number = number; offset = record { 0 = at }; length = len })
     (record { at = record { 0 = at + len }; rest = rest })
 
 -- a refusal, of the section that would stand at `at`
-abbrev pub refused : Fault → ℕ → Read
-refused fault at = Refused fault (record { 0 = at })
+abbrev pub refusedAt : Fault → ℕ → Read
+refusedAt fault at = Refused fault (record { 0 = at })
 
 -- section 0, from its G on: 3, then 4
 unfoldable pub indicatorAt : List ℕ → ℕ → Read
 indicatorAt file g =
     let edition = getD file (g + 7) 0 in
     let total = beAt file (g + 8) 8 in
-    pick (not (eqb edition gribEdition)) (refused (OtherEdition edition) g)
-    (pick (ltb total indicatorSize) (refused TotalUnder16 g)
-    (section (indicator .number) g indicatorSize (total - indicatorSize)))
+    pick (not (eqb edition gribEdition)) (refusedAt (OtherEdition edition) g)
+    (pick (ltb total indicatorSize) (refusedAt TotalUnder16 g)
+    (sectionAt (indicator .number) g indicatorSize (total - indicatorSize)))
 
 -- section 8, with an octet left at least: 2, then 5
 unfoldable pub endAt : List ℕ → ℕ → Read
 endAt file at =
-    pick (ltb (length file - at) endSize) (refused Cut at)
-    (pick (saysMark file at endMark) (section (endSection .number) at endSize 0)
-    (refused NotEndMark at))
+    pick (ltb (length file - at) endSize) (refusedAt Cut at)
+    (pick (saysMark file at endMark) (sectionAt (endSection .number) at endSize 0)
+    (refusedAt NotEndMark at))
 
 -- the file ends inside the payload: section 7 is skipped unread, and of a section 6 the indicator
 -- is read whatever its length
@@ -79,12 +79,12 @@ isCut number len left =
 
 -- a section behind its header, of a kind with this least payload: 7, 2 (payload), 8, 9
 unfoldable pub payloadAt : LeastPayload → ℕ → ℕ → ℕ → ℕ → ℕ → Read
-payloadAt NoHeader at number len left rest = refused (UnknownNumber number) at
+payloadAt NoHeader at number len left rest = refusedAt (UnknownNumber number) at
 payloadAt (Octets least) at number len left rest =
-    pick (isCut number len left) (refused Cut at)
-    (pick (ltb (len - headerSize) least) (refused (PayloadUnderLeast (len - headerSize)) at)
-    (pick (ltb rest len) (refused (LongerThanRest len) at)
-    (section number at len (rest - len))))
+    pick (isCut number len left) (refusedAt Cut at)
+    (pick (ltb (len - headerSize) least) (refusedAt (PayloadUnderLeast (len - headerSize)) at)
+    (pick (ltb rest len) (refusedAt (LongerThanRest len) at)
+    (sectionAt number at len (rest - len))))
 
 -- a section with a header, with an octet left at least: 2 (header), 6, then by its kind
 unfoldable pub headerAt : List ℕ → ℕ → ℕ → Read
@@ -92,8 +92,8 @@ headerAt file at rest =
     let left = length file - at in
     let len = beAt file at 4 in
     let number = getD file (at + 4) 0 in
-    pick (ltb left headerSize) (refused Cut at)
-    (pick (ltb len headerSize) (refused (LengthUnder5 len) at)
+    pick (ltb left headerSize) (refusedAt Cut at)
+    (pick (ltb len headerSize) (refusedAt (LengthUnder5 len) at)
     (payloadAt (leastPayloadOf number) at number len left rest))
 
 -- between messages: section 0 at the next start, or the input is over

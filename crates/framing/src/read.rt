@@ -4,7 +4,7 @@ ghost use Prim.Native.Nat.{_+_, _^_, _<_, _≤_};
 ghost use lib.ListN.{length};
 ghost use Rattle.sections.specs.Kinds.{headerSize, indicatorSize, leastPayloadOf};
 ghost use Rattle.framing.specs.Read.{Over};
-ghost use Rattle.framing.specs.Framing.{section, refused, without, framed, readAt};
+ghost use Rattle.framing.specs.Framing.{sectionAt, refusedAt, without, framed, readAt};
 ghost use Rattle.framing.specs.Framing.{indicatorAt, endAt, headerAt, payloadAt, isCut};
 use crate::search::Found;
 use crate::search::next_start;
@@ -94,14 +94,14 @@ fn over() -> Framed
 }
 
 fn refuse(fault: Fault, at: usize) -> Framed
-    ensures { λ r. ⌜ r ≡ framed (refused fault at) ⌝ }
+    ensures { λ r. ⌜ r ≡ framed (refusedAt fault at) ⌝ }
 {
     without(How::Refused(fault), at as u64)
 }
 
 fn section_at(number: u64, at: usize, length: u32, rest: u64) -> Framed
     requires { ⌜ at + length < 2 ^ 64 ⌝ }
-    ensures { λ r. ⌜ r ≡ framed (section number at length rest) ⌝ }
+    ensures { λ r. ⌜ r ≡ framed (sectionAt number at length rest) ⌝ }
 {
     let offset = at as u64;
     let octets = length as u64;

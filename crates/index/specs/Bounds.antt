@@ -1,4 +1,5 @@
--- How long a file may be, and how much room there is where no table is lent (01, "Refusal numbers").
+-- How long a file may be, and how much room there is where no table is lent (01, "Refusal
+-- numbers").
 use Prim.Native.Nat.{ℕ}
 use Rattle.index.specs.declared.bounds.Room.{Room}
 

@@ -1,8 +1,10 @@
--- A submessage's line, and the sections in force that it is made of (01, "Order"). Assumes nothing.
+-- A submessage's line, and the sections in force that it is made of (01, "Order").
 use Prim.Native.Nat.{ℕ, _+_}
+use mathlib.Core.List.{List}
 use lib.Dec.{eqb, ltb}
 use lib.ListN.{getD, set, replicate}
-use Rattle.octets.specs.Choice.{pick}
+use Rattle.octets.specs.Words.{pick}
+use Rattle.sections.specs.Kinds as kinds
 use Rattle.order.specs.declared.Place.{Place}
 use Rattle.index.specs.declared.line.LocalUsePlace.the-variants.{At, Absent}
 use Rattle.index.specs.declared.line.Force.{Force}
@@ -15,38 +17,60 @@ place n = record { 0 = n }
 
 -- before the first section of a file; nothing asks for it until a section is listed
 abbrev pub unlisted : Listed
-unlisted = record { place = place 0; section = record { number = 0; offset = record { 0 = 0 }; length = 0 } }
+unlisted =
+    record {
+      place = place 0;
+      section = record { number = 0; offset = record { 0 = 0 }; length = 0 };
+    }
+
+-- a place for each section number but the end section's
+abbrev pub everyPlace : Place → List Place
+everyPlace p = replicate (kinds.endSection .number) p
 
 -- a message, before its first section; no line is made before all its sections are read
 abbrev pub opened : ℕ → Force
-opened message = record { message = message; submessage = 0; local = Absent; places = replicate 8 (place 0) }
+opened message =
+    record { message = message; submessage = 0; local = Absent; places = everyPlace (place 0) }
 
--- a section comes in force at its place: it replaces the one of its number, and no other; an end section is never in force
+-- a section comes in force at its place: it replaces the one of its number, and no other; an end
+-- section is never in force
 unfoldable pub inForce : Force → ℕ → Place → Force
 inForce f number here =
-    pick (eqb number 2)
-    (record { message = f .message; submessage = f .submessage; local = At here; places = f .places })
-    (pick (ltb number 8)
-    (record { message = f .message; submessage = f .submessage; local = f .local; places = set (f .places) number here })
+    pick (eqb number (kinds.localUse .number))
+    (record {
+      message = f .message;
+      submessage = f .submessage;
+      local = At here;
+      places = f .places;
+    })
+    (pick (ltb number (kinds.endSection .number))
+    (record {
+      message = f .message;
+      submessage = f .submessage;
+      local = f .local;
+      places = set (f .places) number here;
+    })
     f)
 
 -- the next submessage of the same message, where all stays in force
 abbrev pub withSubmessage : Force → ℕ → Force
-withSubmessage f submessage = record { message = f .message; submessage = submessage; local = f .local; places = f .places }
+withSubmessage f submessage =
+    record { message = f .message; submessage = submessage; local = f .local; places = f .places }
 
--- the line of the submessage in hand, with the place of the section 8 behind it, or 0 where its message goes on
+-- the line of the submessage in hand, with the place of the section 8 behind it, or 0 where its
+-- message goes on
 unfoldable pub lineOf : Force → Place → Line
 lineOf f end =
     record {
       message = f .message;
       submessage = f .submessage;
-      indicator = getD (f .places) 0 (place 0);
-      identification = getD (f .places) 1 (place 0);
+      indicator = getD (f .places) (kinds.indicator .number) (place 0);
+      identification = getD (f .places) (kinds.identification .number) (place 0);
       local = f .local;
-      grid = getD (f .places) 3 (place 0);
-      product = getD (f .places) 4 (place 0);
-      representation = getD (f .places) 5 (place 0);
-      bitmap = getD (f .places) 6 (place 0);
-      values = getD (f .places) 7 (place 0);
+      grid = getD (f .places) (kinds.gridDefinition .number) (place 0);
+      product = getD (f .places) (kinds.prodDefinition .number) (place 0);
+      representation = getD (f .places) (kinds.reprDefinition .number) (place 0);
+      bitmap = getD (f .places) (kinds.bitMap .number) (place 0);
+      values = getD (f .places) (kinds.dataSection .number) (place 0);
       end = end;
     }

@@ -1,5 +1,5 @@
--- Document 01's number and detail of each refusal, the outcome, place, offset and detail of each end, and the octets written (01,
--- "Refusal numbers"). Assumes nothing.
+-- Document 01's number and detail of each refusal, the outcome, place, offset and detail of each
+-- end, and the octets written (01, "Refusal numbers").
 use Prim.Native.Nat.{ℕ}
 use Rattle.framing.specs.declared.read.Fault.{Fault}
 use Rattle.framing.specs.declared.read.Fault.the-variants as fault
@@ -54,7 +54,12 @@ refusalDetail refusal.SubmessageTableFull = 0
 unfoldable pub endOf : Outcome → End
 endOf outcome.Clean = record { outcome = 0; place = 0; offset = 0; detail = 0 }
 endOf (outcome.Refused why place offset) =
-    record { outcome = refusalNumber why; place = place .0; offset = offset .0; detail = refusalDetail why }
+    record {
+      outcome = refusalNumber why;
+      place = place .0;
+      offset = offset .0;
+      detail = refusalDetail why;
+    }
 
 -- for the copy and the writer an answer is these four and the octets written
 unfoldable pub stored : ℕ → StoreEnd
@@ -62,4 +67,8 @@ stored octets = record { end = endOf outcome.Clean; written = octets }
 
 -- for 1 and 15 to 19 place and offset are zeros; a refusal writes nothing
 unfoldable pub unplaced : ℕ → ℕ → StoreEnd
-unplaced outcome detail = record { end = record { outcome = outcome; place = 0; offset = 0; detail = detail }; written = 0 }
+unplaced outcome detail =
+    record {
+      end = record { outcome = outcome; place = 0; offset = 0; detail = detail };
+      written = 0;
+    }

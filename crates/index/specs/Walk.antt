@@ -1,11 +1,12 @@
--- What a walk tells of a file: its section lines, its submessage lines, how many messages it closes, and how it ends (01, "Order",
--- "Refusal numbers"). It goes down the file's listing, with room for so many rows and lines. Assumes nothing.
+-- What a walk tells of a file: its section lines, its submessage lines, how many messages it
+-- closes, and how it ends (01, "Order", "Refusal numbers"). It goes down the file's listing, with
+-- room for so many rows and lines.
 use Prim.Native.Nat.{ℕ, _+_}
 use mathlib.Core.List.{List, [], _∷_, _++_}
 use lib.Dec.{ltb, leb}
 use lib.ListN.{length}
-use Rattle.octets.specs.Choice.{pick}
-use Rattle.framing.specs.Listing.{Ending, over, refused, listing}
+use Rattle.octets.specs.Words.{pick}
+use Rattle.framing.specs.Listing.{Ending, over, unreadable, listing}
 use Rattle.framing.specs.declared.read.Section.{Section}
 use Rattle.order.specs.Order.{judged, completes, isBetween}
 use Rattle.order.specs.declared.Order.{Order}
@@ -23,7 +24,8 @@ use Rattle.index.specs.declared.listed.Listed.{Listed}
 use Rattle.index.specs.Bounds.{mostOctets}
 use Rattle.index.specs.declared.bounds.Room.{Room}
 
--- what stands before a section: how many sections and lines are told, the section told last, what was read last, what is in force
+-- what stands before a section: how many sections and lines are told, the section told last, what
+-- was read last, what is in force
 pub record Reached : Type 0 where
   pub sections : ℕ
   pub lines : ℕ
@@ -42,7 +44,8 @@ atStart =
       force = opened 0;
     }
 
--- a well-read section stops the walk, or is passed: with the lines that are told because of it, and the messages that it closes
+-- a well-read section stops the walk, or is passed: with the lines that are told because of it, and
+-- the messages that it closes
 pub data Judgement : Type 0 where
   stops : List Line → Refusal → Judgement
   passes : List Line → ℕ → Reached → Judgement
@@ -96,12 +99,14 @@ goneOn r =
       force = withSubmessage (r .force) (r .force .submessage + 1);
     }
 
--- after a good read: after 7 any section but 8 first completes the submessage, with end place 0 (14); then it is judged
+-- after a good read: after 7 any section but 8 first completes the submessage, with end place 0
+-- (14); then it is judged
 unfoldable pub judgement : Room → Reached → Section → Judgement
 judgement room r s =
     pick (completes (r .order) (s .number))
     (pick (leb (room .lines) (r .lines)) (stops [] refusal.SubmessageTableFull)
-    (byOrder (judged SubmessageStart (s .number)) room (goneOn r) s (lineOf (r .force) (place 0) ∷ [])))
+    (byOrder (judged SubmessageStart (s .number)) room (goneOn r) s
+    (lineOf (r .force) (place 0) ∷ [])))
     (byOrder (judged (r .order) (s .number)) room r s [])
 
 -- what a walk tells
@@ -115,18 +120,25 @@ pub record Told : Type 0 where
 abbrev pub ends : Outcome → Told
 ends outcome = record { sections = []; lines = []; messages = 0; outcome = outcome }
 
--- the input over between messages is a clean end, elsewhere 10 with the last section's place and offset; a section that can't be
--- read has the place that it would have
+-- the input over between messages is a clean end, elsewhere 10 with the last section's place and
+-- offset; a section that can't be read has the place that it would have
 unfoldable pub concluded : Reached → Ending → Outcome
 concluded r over =
     pick (isBetween (r .order)) outcome.Clean
     (outcome.Refused refusal.InputOver (r .last .place) (r .last .section .offset))
-concluded r (refused fault offset) = outcome.Refused (refusal.Unreadable fault) (place (r .sections)) offset
+concluded r (unreadable fault offset) =
+    outcome.Refused (refusal.Unreadable fault) (place (r .sections)) offset
 
--- a section, and what the walk tells after it; a refused section is not listed, and what it completed stands
+-- a section, and what the walk tells after it; a refused section is not listed, and what it
+-- completed stands
 abbrev pub followed : Reached → Section → Judgement → (Reached → Told) → Told
 followed r s (stops lines why) later =
-    record { sections = []; lines = lines; messages = 0; outcome = outcome.Refused why (place (r .sections)) (s .offset) }
+    record {
+      sections = [];
+      lines = lines;
+      messages = 0;
+      outcome = outcome.Refused why (place (r .sections)) (s .offset);
+    }
 followed r s (passes lines closed reached) later =
     let rest = later reached in
     record {
@@ -139,10 +151,12 @@ followed r s (passes lines closed reached) later =
 -- down a list of sections
 unfoldable pub walkedFrom : Room → Reached → List Section → Ending → Told
 walkedFrom room r [] ending = ends (concluded r ending)
-walkedFrom room r (s ∷ more) ending = followed r s (judgement room r s) (λ reached. walkedFrom room reached more ending)
+walkedFrom room r (s ∷ more) ending =
+    followed r s (judgement room r s) (λ reached. walkedFrom room reached more ending)
 
 -- the walk of a file: 1 over 2^40 octets, else down its listing
 unfoldable pub walked : Room → List ℕ → Told
 walked room file =
-    pick (ltb mostOctets (length file)) (ends (outcome.Refused refusal.FileTooLong (place 0) (record { 0 = 0 })))
+    pick (ltb mostOctets (length file))
+    (ends (outcome.Refused refusal.FileTooLong (place 0) (record { 0 = 0 })))
     (walkedFrom room atStart (listing file .sections) (listing file .ending))

@@ -38,7 +38,8 @@ pub struct Line {
     pub end: Place,
 }
 
-// What is in force inside a message: for each section number the place of the last section that had it.
+// What is in force inside a message: for each section number the place of the last section that had
+// it.
 pub struct Force {
     pub message: u64,
     pub submessage: u64,

@@ -1,7 +1,15 @@
-// Document 01's numbers (its table "Refusal numbers"): the number and the detail of each refusal, the four numbers of a walk's end, and
-// the five of a call that stores octets.
+// Document 01's numbers (its table "Refusal numbers"): the number and the detail of each refusal,
+// the four numbers of a walk's end, and the five of a call that stores octets.
 ghost use mathlib.Core.Path.{_≡_};
-ghost use Rattle.index.specs.Numbers.{faultNumber, faultDetail, refusalNumber, refusalDetail, endOf, stored, unplaced};
+ghost use Rattle.index.specs.Numbers.{
+  faultNumber,
+  faultDetail,
+  refusalNumber,
+  refusalDetail,
+  endOf,
+  stored,
+  unplaced,
+};
 use crate::refusal::Outcome;
 use crate::refusal::Refusal;
 use framing::Fault;

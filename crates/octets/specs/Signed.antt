@@ -4,7 +4,7 @@ use mathlib.Core.List.{List}
 use lib.Dec.{ltb}
 use lib.IntN.{ℤ, pos, negℤ}
 use lib.ListN.{length, getD}
-use Rattle.octets.specs.Choice.{pick}
+use Rattle.octets.specs.Words.{pick}
 use Rattle.octets.specs.BigEndian.{beAt}
 use Rattle.octets.specs.declared.Signed.{Signed}
 use Rattle.octets.specs.declared.Signed.the-variants.{Number, NoNumber}

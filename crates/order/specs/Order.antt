@@ -3,7 +3,7 @@ use Prim.Native.Nat.{ℕ, _+_}
 use mathlib.Core.Bool.{Bool, true, false, not}
 use mathlib.Core.List.{List, [], _∷_}
 use lib.Dec.{eqb}
-use Rattle.octets.specs.Choice.{pick}
+use Rattle.octets.specs.Words.{pick}
 use Rattle.sections.specs.Kinds.{
   indicator,
   identification,
@@ -97,18 +97,18 @@ isBetween AfterData = false
 isBetween SubmessageStart = false
 
 -- a number at a place, and what the order says of those after it
-abbrev pub followed : Judged → ℕ → (Order → Verdict) → Verdict
-followed (Fits next) place later = later next
-followed Closes place later = later BetweenMessages
-followed Misplaced place later = verdict.Misplaced (record { 0 = place })
-followed NoGrid place later = verdict.NoGrid (record { 0 = place })
+abbrev pub thenJudged : Judged → ℕ → (Order → Verdict) → Verdict
+thenJudged (Fits next) place later = later next
+thenJudged Closes place later = later BetweenMessages
+thenJudged Misplaced place later = verdict.Misplaced (record { 0 = place })
+thenJudged NoGrid place later = verdict.NoGrid (record { 0 = place })
 
 -- a list of numbers, from a place on: the first that can't come next, else whether the list ends
 -- between messages
 unfoldable pub orderFrom : Order → ℕ → List ℕ → Verdict
 orderFrom order place [] = pick (isBetween order) verdict.Clean verdict.InputOver
 orderFrom order place (number ∷ more) =
-    followed (judged order number) place (λ next. orderFrom next (place + 1) more)
+    thenJudged (judged order number) place (λ next. orderFrom next (place + 1) more)
 
 -- a whole list of numbers
 unfoldable pub orderOf : List ℕ → Verdict

@@ -1,5 +1,5 @@
 -- Demand 2, the public copy: when it refuses, in document 01's numbers, and when it is written; and what then stands in the destination.
--- Assumes nothing.
+--
 use Prim.Native.Nat.{ℕ, _≤_, _<_}
 use native.Mathlib.Omega.{arith}
 use mathlib.Core.Path.{_≡_, refl, sym, ap, subst, _∙_}
@@ -7,6 +7,7 @@ use mathlib.Core.List.{List}
 use lib.ListN.{length, take, drop}
 use lib.Seq.{take-at}
 use borrow.Author.Tests.{lt-ltb, le-ltb}
+use Rattle.octets.specs.Words.{Not, Iff}
 use Rattle.framing.specs.declared.read.Fault.{Fault}
 use Rattle.framing.specs.declared.read.Fault.the-variants as fault
 use Rattle.index.specs.Numbers.{faultNumber, refusalNumber, endOf, stored, unplaced}
@@ -22,12 +23,11 @@ use Rattle.publish.specs.Values.{licensed}
 use Rattle.publish.specs.Copy.{publicCopy, byOutcome, copyOf}
 use Rattle.publish.specs.End.{copyEnd}
 use Rattle.publish.proofs.Runs.{split}
-use Rattle.walk_laws.specs.Rows.{Not, Iff}
 use Rattle.walk_laws.specs.ExactlyWhen.{TooLong, NotTooLong, EndsClean, between}
 use Rattle.walk_laws.proofs.WholeWalk.{walk-refused-exactly-when, walk-clean-exactly-when}
 use Rattle.blindness.proofs.Copies.{length-copy}
-use Rattle.promises.specs.ExactlyWhen.{CopyGiven, tooLong, tooShort, ofWalk}
-use Rattle.promises.specs.Promises.{ended}
+use Rattle.promises.specs.ExactlyWhen.{CopyGiven, copyTooLong, tooShort, ofWalk}
+use Rattle.promises.specs.Promises.{endNumbers}
 
 -- no fault has the number 0
 fault-numbered : (f : Fault) → 1 ≤ faultNumber f
@@ -67,7 +67,7 @@ clean-short file clean = go (walk-clean-exactly-when unlimited file .0 clean)
 
 -- an end of a copy in numbers that is a refusal
 abbrev refusing : ℕ → ℕ → ℕ → ℕ → StoreEnd
-refusing n p o d = record { end = ended n p o d; written = 0 }
+refusing n p o d = record { end = endNumbers n p o d; written = 0 }
 
 module _ (file dest : List ℕ) where
   -- what a call answers, in numbers
@@ -99,7 +99,7 @@ module _ (file dest : List ℕ) where
   when-walked short fits = ap (λ c. copyEnd (c .answer)) (by-walk short fits)
 
   -- a walk's refusal is the copy's
-  refused-alike : (x : Outcome) (n p o d : ℕ) → Not (n ≡ 0) → Iff (answersTo x ≡ refusing n p o d) (endOf x ≡ ended n p o d)
+  refused-alike : (x : Outcome) (n p o d : ℕ) → Not (n ≡ 0) → Iff (answersTo x ≡ refusing n p o d) (endOf x ≡ endNumbers n p o d)
   unfolding byOutcome copyEnd stored endOf
   refused-alike outcome.Clean n p o d some = (
     (λ e. absurd (some (sym (ap (λ (s : StoreEnd). s .end .outcome) e)))),
@@ -127,14 +127,14 @@ module _ (file dest : List ℕ) where
     where
       there : answers ≡ refusing n p o d → CopyGiven file dest n p o d
       there e =
-          split 1099511627776 (length file) (λ long. subst Numbers (sym (when-long long) ∙ e) (tooLong long)) λ short.
+          split 1099511627776 (length file) (λ long. subst Numbers (sym (when-long long) ∙ e) (copyTooLong long)) λ short.
           split (length dest) (length file) (λ less. subst Numbers (sym (when-short short less) ∙ e) (tooShort short less)) λ fits.
           ofWalk short fits
           (walk-refused-exactly-when unlimited file n p o d some .0
           (refused-alike (walked unlimited file .outcome) n p o d some .0 (sym (when-walked short fits) ∙ e)))
 
       back : (n p o d : ℕ) → Not (n ≡ 0) → CopyGiven file dest n p o d → answers ≡ refusing n p o d
-      back _ _ _ _ some (tooLong long) = when-long long
+      back _ _ _ _ some (copyTooLong long) = when-long long
       back _ _ _ _ some (tooShort short less) = when-short short less
       back n p o d some (ofWalk short fits given) =
           when-walked short fits

@@ -1,4 +1,4 @@
--- The three demands of specs/Promises.antt are kept. Assumes nothing.
+-- The three demands of specs/Promises.antt are kept.
 use mathlib.Core.Path.{sym, _∙_}
 use Rattle.index.specs.Bounds.{unlimited}
 use Rattle.pull.proofs.Sequence.{sequence}

@@ -1,4 +1,4 @@
--- The pull reader's calls, in numbers: each section listed is handed out by the call of its place. Assumes nothing.
+-- The pull reader's calls, in numbers: each section listed is handed out by the call of its place.
 use Prim.Native.Nat.{ℕ, zero, suc, _+_, _<_}
 use native.Mathlib.Omega.{arith}
 use mathlib.Core.Path.{_≡_, refl, ap, _∙_}

@@ -19,7 +19,7 @@ use Rattle.round_trip.specs.Faults.{
 
 -- number, place, offset and detail of a copy's refusal: 1, 19, then the walk's refusals
 pub data CopyGiven (file dest : List ℕ) : ℕ → ℕ → ℕ → ℕ → Type 0 where
-  tooLong : TooLong file → CopyGiven file dest 1 0 0 0
+  copyTooLong : TooLong file → CopyGiven file dest 1 0 0 0
   tooShort : NotTooLong file → length dest < length file → CopyGiven file dest 19 0 0 0
   ofWalk : {n p o d : ℕ}
       → NotTooLong file → length file ≤ length dest → Given unlimited file n p o d

@@ -1,5 +1,5 @@
 -- The copy that the turns of the loop make, while the walk goes to a clean end: up to the cursor it is written, and which octets stay
--- from there on is told by what is left of the message in hand and by the sections to come. Assumes nothing.
+-- from there on is told by what is left of the message in hand and by the sections to come.
 use mathlib.Core.Path.{_≡_, refl, sym, ap, subst, _∙_}
 use mathlib.Core.Bool.{Bool, true, false}
 use mathlib.Core.List.{List, [], _∷_, _++_}
@@ -8,7 +8,7 @@ use Prim.Native.Nat.{ℕ, zero, suc, _+_, _-_, _≤_, _<_}
 use native.Mathlib.Nat.{add-zero, zero-add}
 use native.Mathlib.Omega.{arith}
 use lib.ListN.{length, drop, getD}
-use Rattle.octets.specs.Choice.{pick}
+use Rattle.octets.specs.Words.{pick}
 use Rattle.framing.specs.declared.read.Section.{Section}
 use Rattle.framing.specs.declared.read.Cursor.{Cursor}
 use Rattle.framing.proofs.OneRead.{goes}
@@ -25,7 +25,7 @@ use Rattle.reading.specs.declared.Seen.the-variants as seen
 use Rattle.reading.proofs.Moves.{clean-reads}
 use Rattle.publish.specs.Values.{licensed}
 use Rattle.publish.specs.Copy.{stays, blankedFrom, publicCopy}
-use Rattle.publish.specs.Runs.{Wrote, zeros, sectionOctets, WroteSection, ToWrite}
+use Rattle.publish.specs.Runs.{WroteRun, zeros, copiedOctet, WroteSection, ToWrite}
 use Rattle.publish.proofs.Runs.{wrote-none, wrote-as, wrote-both, wrote-list}
 use Rattle.publish.specs.Passed.{passedBy}
 use Rattle.publish.specs.declared.Passed.{Passed}
@@ -65,7 +65,7 @@ pub record Copying (file d₀ : List ℕ) (at : Reading) (done : ℕ) (d : List 
   pub way : OnWay Clean file at
   pub here : at .cursor .at .0 ≡ done
   pub inside : done ≤ length file
-  pub written : Wrote (copied file) 0 done d₀ d
+  pub written : WroteRun (copied file) 0 done d₀ d
   pub to-come : (k : ℕ) → done ≤ k
       → stayed file k ≡ left file (at .cursor .at .0) (at .cursor .rest) (toldOn file (way .r) (at .cursor) .sections) k
 
@@ -144,8 +144,8 @@ module _ (file d₀ : List ℕ) (fits : length file ≤ mostOctets) where
           roomy = omega (arith, before .written .same-length);
         }
 
-    turn-here : (k : ℕ) → done ≤ k → k < next .cursor .at .0 → sectionOctets file s k ≡ copied file k
-    unfolding sectionOctets copied
+    turn-here : (k : ℕ) → done ≤ k → k < next .cursor .at .0 → copiedOctet file s k ≡ copied file k
+    unfolding copiedOctet copied
     turn-here k low high =
         ap (λ (t : Bool). pick t (getD file k 0) 0)
         (sym
@@ -164,13 +164,13 @@ module _ (file d₀ : List ℕ) (fits : length file ≤ mostOctets) where
     pub copying-turn : {d′ : List ℕ} → WroteSection file done s d d′ → Copying file d₀ next (next .cursor .at .0) d′
     copying-turn {d′} wrote =
         let common = goes (p .is-read) in
-        let run : Wrote (sectionOctets file s) done (next .cursor .at .0) d d′ = rw (common .ends) wrote in
+        let run : WroteRun (copiedOctet file s) done (next .cursor .at .0) d d′ = rw (common .ends) wrote in
         record {
           way = record { r = p .q; order = p .order; bounded = p .bounded; comes = sym (p .outcome) ∙ before .way .comes };
           here = refl;
           inside = whole file fits p (before .way .comes);
           written =
-              wrote-both (omega arith) (omega (arith, before .here)) (before .written) (wrote-as (sectionOctets file s) turn-here run);
+              wrote-both (omega arith) (omega (arith, before .here)) (before .written) (wrote-as (copiedOctet file s) turn-here run);
           to-come = behind;
         }
 
@@ -180,10 +180,10 @@ module _ (file d₀ : List ℕ) (fits : length file ≤ mostOctets) where
   -- behind the last section there are zeros, and then the copy stands
   pub copying-last : {at : Reading} {done : ℕ} {d d′ : List ℕ} (before : Copying file d₀ at done d)
       → passedBy (seen file at) ≡ passed.Ended → length file ≤ length d₀
-      → Wrote zeros done (length file) d d′ → d′ ≡ publicCopy licensed file ++ drop (length file) d₀
+      → WroteRun zeros done (length file) d d′ → d′ ≡ publicCopy licensed file ++ drop (length file) d₀
   unfolding publicCopy copied stayed
   copying-last {at} {done} {d′ = d′} before ended room wrote =
-      subst (λ (n : ℕ). n ≤ length d₀ → Wrote (copied file) 0 n d₀ d′ → d′ ≡ copy ++ drop n d₀) (blanked-length keep 0 file)
+      subst (λ (n : ℕ). n ≤ length d₀ → WroteRun (copied file) 0 n d₀ d′ → d′ ≡ copy ++ drop n d₀) (blanked-length keep 0 file)
       (wrote-list copy d₀ d′ λ k. sym (blanked-octet keep 0 file k ∙ ap (λ (j : ℕ). pick (keep j) (getD file k 0) 0) (zero-add k)))
       room
       (wrote-both (omega arith) (before .inside) (before .written)

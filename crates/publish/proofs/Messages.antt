@@ -1,4 +1,4 @@
--- The octets of a message, section by section: what is left of it behind a section, and which of the section's own stay. Assumes nothing.
+-- The octets of a message, section by section: what is left of it behind a section, and which of the section's own stay.
 use mathlib.Core.Path.{_≡_, refl, sym}
 use mathlib.Core.Bool.{Bool, true, false, not, _&&_, _||_}
 use mathlib.Core.List.{List, [], _∷_}
@@ -10,7 +10,7 @@ use lib.ListN.{length}
 use borrow.Author.Tests.{le-leb, lt-leb, lt-ltb, le-ltb, ne-eqb}
 use Rattle.octets.specs.BigEndian.{beAt}
 use Rattle.framing.specs.Framing.{readAt}
-use Rattle.framing.specs.Listing.{Ending, Listing, listed, listingFrom}
+use Rattle.framing.specs.Listing.{Ending, Listing, listedBy, listingFrom}
 use Rattle.framing.specs.declared.read.Section.{Section}
 use Rattle.framing.specs.declared.read.Cursor.{Cursor}
 use Rattle.framing.specs.Read.{Read}
@@ -36,7 +36,7 @@ from-later at later (s ∷ more) h (first, from) = (omega arith, from-later at l
 
 -- those of a listing
 from-read : (file : List ℕ) (at rest : ℕ) (found : Read) (f : ℕ → ℕ → Listing) → Reads file at rest found
-    → ((at′ rest′ : ℕ) → From at′ (f at′ rest′ .sections)) → From at (listed found f .sections)
+    → ((at′ rest′ : ℕ) → From at′ (f at′ rest′ .sections)) → From at (listedBy found f .sections)
 from-read file at rest (read.Section s next) f told later =
     let common = goes told in
     let at′ = next .at .0 in

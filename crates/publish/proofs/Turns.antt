@@ -7,7 +7,7 @@ use native.Mathlib.Omega.{arith}
 use lib.ListN.{length}
 use Rattle.order.specs.Order.{isBetween}
 use Rattle.framing.specs.Framing.{readAt}
-use Rattle.framing.specs.Listing.{Listing, listed}
+use Rattle.framing.specs.Listing.{Listing, listedBy}
 use Rattle.framing.specs.declared.read.Section.{Section}
 use Rattle.framing.specs.declared.read.Cursor.{Cursor}
 use Rattle.framing.specs.Read.{Read}
@@ -96,7 +96,7 @@ module _ (file : List ℕ) (fits : length file ≤ mostOctets) where
       rest = cursor .rest
 
       by-read : (found : Read) → Reads file at rest found
-          → walkedFrom unlimited r (listed found (listingOn file) .sections) (listed found (listingOn file) .ending) .outcome ≡ Clean
+          → walkedFrom unlimited r (listedBy found (listingOn file) .sections) (listedBy found (listingOn file) .ending) .outcome ≡ Clean
           → isBetween (r .order) ≡ true
       by-read (read.Section s next) is e = absurd (omega (arith, goes is .forward, goes is .inside))
       by-read read.Over is e =

@@ -1,5 +1,6 @@
-// The public copy of a file (document 01, "Values octets and the public copy"): the file with every values octet and every octet outside a
-// message set to zero, in a second lent buffer, and only if the whole file walks clean. Values octets are never read.
+// The public copy of a file (document 01, "Values octets and the public copy"): the file with every
+// values octet and every octet outside a message set to zero, in a second lent buffer, and only if
+// the whole file walks clean. Values octets are never read.
 ghost use mathlib.Core.Path.{_≡_};
 ghost use mathlib.Core.List.{_++_};
 ghost use mathlib.Core.Bool.{true, false};
@@ -11,7 +12,7 @@ ghost use Rattle.index.specs.Walk.{atStart, walked};
 ghost use Rattle.publish.specs.Values.{licensed, inStretch};
 ghost use Rattle.publish.specs.Copy.{publicCopy, copyOf};
 ghost use Rattle.publish.specs.End.{copyEnd};
-ghost use Rattle.publish.specs.Runs.{Wrote, zeros, octetsOf, ToWrite, WroteSection};
+ghost use Rattle.publish.specs.Runs.{WroteRun, zeros, fileOctet, ToWrite, WroteSection};
 ghost use Rattle.publish.specs.Passed.{passedBy};
 ghost use Rattle.reading.specs.Reading.{seen};
 ghost use Rattle.index.specs.declared.refusal.Outcome.the-variants.{Clean, Refused};
@@ -109,7 +110,7 @@ fn outcome_of(file: &[u8]) -> Outcome
 // Sets octets to zero, from one index up to another.
 fn blank(dest: &mut [u8], from: usize, to: usize)
     requires { ⌜ (from ≤ to) × (to ≤ length (now dest)) ⌝ }
-    ensures { λ _. ⌜ Wrote zeros from to (now (dest .entry)) (now (dest .exit)) ⌝ }
+    ensures { λ _. ⌜ WroteRun zeros from to (now (dest .entry)) (now (dest .exit)) ⌝ }
 {
     let mut i = from;
     while i < to {
@@ -121,7 +122,8 @@ fn blank(dest: &mut [u8], from: usize, to: usize)
 // Copies octets, from one index up to another.
 fn keep(file: &[u8], dest: &mut [u8], from: usize, to: usize)
     requires { ⌜ (from ≤ to) × (to ≤ length (now file)) × (to ≤ length (now dest)) ⌝ }
-    ensures { λ _. ⌜ Wrote (octetsOf (now (file .entry))) from to (now (dest .entry)) (now (dest .exit)) ⌝ }
+    ensures { λ _. ⌜ WroteRun (fileOctet (now (file .entry))) from to (now (dest .entry))
+        (now (dest .exit)) ⌝ }
 {
     let mut i = from;
     while i < to {
@@ -130,7 +132,8 @@ fn keep(file: &[u8], dest: &mut [u8], from: usize, to: usize)
     }
 }
 
-// Where the values of a section of so many octets begin, counted from 0 in the section: at its end, where it has none.
+// Where the values of a section of so many octets begin, counted from 0 in the section: at its end,
+// where it has none.
 fn first_value(number: u64, octets: usize) -> usize
     ensures within { λ r. ⌜ r ≤ octets ⌝ }
     ensures from { λ r. ⌜ ((i : ℕ) → i < octets → inStretch (licensed number) i ≡ leb r i) ⌝ }
@@ -150,7 +153,8 @@ fn first_value(number: u64, octets: usize) -> usize
 // Writes the copy of a section, and zeros for the octets before it that belong to no message.
 fn put_section(file: &[u8], dest: &mut [u8], done: usize, s: Section)
     requires { ⌜ ToWrite done s (length (now file)) (length (now dest)) ⌝ }
-    ensures { λ _. ⌜ WroteSection (now (file .entry)) done s (now (dest .entry)) (now (dest .exit)) ⌝ }
+    ensures { λ _. ⌜ WroteSection (now (file .entry)) done s (now (dest .entry))
+        (now (dest .exit)) ⌝ }
 {
     let offset = s.offset;
     let from = offset.0 as usize;
@@ -184,8 +188,11 @@ fn passed_at(file: &[u8], reading: Reading) -> Passed
 
 // Writes the public copy of a file that walks clean.
 fn put_copy(file: &[u8], dest: &mut [u8])
-    requires { ⌜ (length (now file) ≤ mostOctets) × (walked unlimited (now file) .outcome ≡ Clean) × (length (now file) ≤ length (now dest)) ⌝ }
-    ensures { λ _. ⌜ now (dest .exit) ≡ publicCopy licensed (now (file .entry)) ++ drop (length (now (file .entry))) (now (dest .entry)) ⌝ }
+    requires { ⌜ (length (now file) ≤ mostOctets) × (walked unlimited (now file) .outcome ≡ Clean)
+        × (length (now file) ≤ length (now dest)) ⌝ }
+    ensures { λ _. ⌜ now (dest .exit)
+        ≡ publicCopy licensed (now (file .entry))
+        ++ drop (length (now (file .entry))) (now (dest .entry)) ⌝ }
 {
     let mut reading = start();
     let mut done: usize = 0;
@@ -210,7 +217,8 @@ fn put_copy(file: &[u8], dest: &mut [u8])
 // The public copy: 1, 19, then the walk's refusals.
 pub fn publish(file: &[u8], dest: &mut [u8]) -> Published
     ensures answer { λ r. ⌜ r ≡ copyOf licensed (now (file .entry)) (now (dest .entry)) .answer ⌝ }
-    ensures dest { λ r. ⌜ now (dest .exit) ≡ copyOf licensed (now (file .entry)) (now (dest .entry)) .dest ⌝ }
+    ensures dest { λ r. ⌜ now (dest .exit)
+        ≡ copyOf licensed (now (file .entry)) (now (dest .entry)) .dest ⌝ }
 {
     if MOST_OCTETS < file.len() as u64 {
         return Published::FileTooLong;

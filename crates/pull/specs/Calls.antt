@@ -4,7 +4,7 @@ use mathlib.Core.Bool.{true, false}
 use mathlib.Core.List.{List}
 use lib.Dec.{ltb}
 use lib.ListN.{length}
-use Rattle.octets.specs.Choice.{pick}
+use Rattle.octets.specs.Words.{pick}
 use Rattle.framing.specs.declared.read.Section.{Section}
 use Rattle.order.specs.declared.Place.{Place}
 use Rattle.index.specs.Lines.{place}
@@ -33,28 +33,42 @@ abbrev pub handedOut : Place → Section → Reading → Pull
 handedOut at s next =
     record {
       answer = Passed (record { place = at; section = s });
-      next = record { reading = next; place = further at; last = record { place = at; section = s }; over = false };
+      next =
+          record {
+            reading = next;
+            place = further at;
+            last = record { place = at; section = s };
+            over = false;
+          };
     }
 
 -- the end is told, and all is over
 abbrev pub stopped : Progress → Pulled → Pull
-stopped p answer = record { answer = answer; next = record { reading = p .reading; place = p .place; last = p .last; over = true } }
+stopped p answer =
+    record {
+      answer = answer;
+      next = record { reading = p .reading; place = p .place; last = p .last; over = true };
+    }
 
 -- by what is seen
 unfoldable pub pullBy : Progress → Seen → Pull
 pullBy p (seen.Passes s next) = handedOut (p .place) s next
 pullBy p (seen.Closes s next) = handedOut (p .place) s next
-pullBy p (seen.Misplaced s) = stopped p (Refused (refusal.Misplaced (s .number)) (p .place) (s .offset))
+pullBy p (seen.Misplaced s) =
+    stopped p (Refused (refusal.Misplaced (s .number)) (p .place) (s .offset))
 pullBy p (seen.NoGrid s) = stopped p (Refused (refusal.NoGrid (s .number)) (p .place) (s .offset))
 pullBy p seen.Clean = stopped p Ended
-pullBy p seen.InputOver = stopped p (Refused refusal.InputOver (p .last .place) (p .last .section .offset))
-pullBy p (seen.Unreadable fault offset) = stopped p (Refused (refusal.Unreadable fault) (p .place) offset)
+pullBy p seen.InputOver =
+    stopped p (Refused refusal.InputOver (p .last .place) (p .last .section .offset))
+pullBy p (seen.Unreadable fault offset) =
+    stopped p (Refused (refusal.Unreadable fault) (p .place) offset)
 
 -- one call
 unfoldable pub pullAt : List ℕ → Progress → Pull
 pullAt file p =
     pick (p .over) (record { answer = Ended; next = p })
-    (pick (ltb mostOctets (length file)) (stopped p (Refused refusal.FileTooLong (place 0) (record { 0 = 0 })))
+    (pick (ltb mostOctets (length file))
+    (stopped p (Refused refusal.FileTooLong (place 0) (record { 0 = 0 })))
     (pullBy p (seen file (p .reading))))
 
 -- the progress after so many calls

@@ -1,5 +1,6 @@
-// The pull reader (document 01, "Order"; the crate's Grib2SectionStream): a struct that keeps the lent file and the
-// place of its reading together, and hands out one passed section a call. `first` and `pull_at` are the same over plain parameters.
+// The pull reader (document 01, "Order"; the crate's Grib2SectionStream): a struct that keeps the
+// lent file and the place of its reading together, and hands out one passed section a call. `first`
+// and `pull_at` are the same over plain parameters.
 ghost use mathlib.Core.Path.{_≡_};
 ghost use Rattle.pull.specs.Calls.{firstOf, further, handedOut, stopped, pullAt};
 ghost use Rattle.pull.specs.declared.Pulled.the-variants.{Refused};
@@ -23,7 +24,8 @@ pub enum Pulled {
     Ended,
 }
 
-// Where the reading stands: the place of the section that is read next, the section passed last, and whether the end was told.
+// Where the reading stands: the place of the section that is read next, the section passed last,
+// and whether the end was told.
 pub struct Progress {
     pub reading: Reading,
     pub place: Place,
@@ -161,9 +163,11 @@ pub fn new<'a>(file: &'a [u8]) -> Reader<'a>
 impl<'a> Reader<'a> {
     // The next section, the refusal, or that the reading has ended.
     pub fn next(&mut self) -> Pulled
-        ensures { λ r. ⌜ (r ≡ pullAt (now (now (self .entry) .file)) (now (self .entry) .progress) .answer)
+        ensures { λ r. ⌜
+            (r ≡ pullAt (now (now (self .entry) .file)) (now (self .entry) .progress) .answer)
             × ((now (self .exit) .file ≡ now (self .entry) .file)
-            × (now (self .exit) .progress ≡ pullAt (now (now (self .entry) .file)) (now (self .entry) .progress) .next)) ⌝ }
+            × (now (self .exit) .progress
+            ≡ pullAt (now (now (self .entry) .file)) (now (self .entry) .progress) .next)) ⌝ }
     {
         let p = pull_at(self.file, self.progress);
         self.progress = p.next;

@@ -6,7 +6,7 @@ use Prim.Native.Nat.{ℕ}
 use native.Mathlib.Omega.{arith}
 use lib.Dec.{ltb, leb, eqb}
 use lib.ListN.{length}
-use Rattle.octets.specs.Choice.{pick}
+use Rattle.octets.specs.Words.{pick}
 use Rattle.order.specs.Order.{judged, completes, isBetween}
 use Rattle.order.specs.declared.Order.{Order}
 use Rattle.order.specs.declared.Order.the-variants.{BetweenMessages, AfterIdentification, AfterData, SubmessageStart}
@@ -14,7 +14,7 @@ use Rattle.order.specs.declared.Judged.{Judged}
 use Rattle.order.specs.declared.Judged.the-variants as order
 use Rattle.order.proofs.Laws.{closes-only, no-grid-only, completes-only, starts-next}
 use Rattle.framing.specs.Framing.{readAt}
-use Rattle.framing.specs.Listing.{Listing, listed, listing}
+use Rattle.framing.specs.Listing.{Listing, listedBy, listing}
 use Rattle.framing.specs.declared.read.Section.{Section}
 use Rattle.framing.specs.declared.read.Cursor.{Cursor}
 use Rattle.framing.specs.Read.{Read}
@@ -132,7 +132,7 @@ module _ (file : List ℕ) (room : Room) (r : Reached) where
   by-over false e = refl
 
   by-read : (next : Read)
-      → walkedFrom room r (listed next (listingOn file) .sections) (listed next (listingOn file) .ending)
+      → walkedFrom room r (listedBy next (listingOn file) .sections) (listedBy next (listingOn file) .ending)
       ≡ toldBy file room r (spec.seenByRead next (r .order))
   unfolding walkedFrom concluded toldFrom toldBy spec.seenByRead spec.overIn
   by-read (read.Section s cursor) =

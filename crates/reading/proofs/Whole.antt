@@ -13,7 +13,7 @@ use Rattle.sections.specs.Kinds.{leastPayloadOf, kindOf, kinds}
 use Rattle.sections.specs.declared.kinds.LeastPayload.{LeastPayload}
 use Rattle.sections.specs.declared.kinds.LeastPayload.the-variants.{Octets, NoHeader}
 use Rattle.framing.specs.Search.{says}
-use Rattle.framing.specs.Framing.{section, endAt, isCut, payloadAt, headerAt, readAt}
+use Rattle.framing.specs.Framing.{sectionAt, endAt, isCut, payloadAt, headerAt, readAt}
 use Rattle.framing.specs.Read.{Read}
 use Rattle.framing.proofs.Tests.{by-test}
 
@@ -44,7 +44,7 @@ module _ (number len left least : ℕ) (of : leastPayloadOf number ≡ Octets le
 
   -- nothing is refused
   pub passes : isCut number len left ≡ false → (at rest : ℕ) → len ≤ rest
-      → payloadAt (leastPayloadOf number) at number len left rest ≡ section number at len (rest - len)
+      → payloadAt (leastPayloadOf number) at number len left rest ≡ sectionAt number at len (rest - len)
   unfolding payloadAt
   passes whole at rest room = simp (of, whole, le-ltb (len - 5) least enough, le-ltb rest len room)
 
@@ -65,7 +65,7 @@ header-reads file at rest more inside header long found =
 
 -- section 8 is read
 pub end-reads : (file : List ℕ) (at rest : ℕ) → rest ≡ 4 → at < length file → 4 ≤ length file - at → says file at 55 55 55 55 ≡ true
-    → readAt file at rest ≡ section 8 at 4 0
+    → readAt file at rest ≡ sectionAt 8 at 4 0
 unfolding readAt endAt
 end-reads file at rest e inside room mark =
     simp (e, lt-leb (length file) at inside, le-ltb (length file - at) 4 room, mark)

@@ -4,9 +4,10 @@ use mathlib.Core.Bool.{Bool, true, false}
 use mathlib.Core.Path.{_≡_}
 use mathlib.Core.List.{List}
 use lib.Dec.{eqb}
-use Rattle.octets.specs.Choice.{pick}
+use Rattle.octets.specs.Words.{pick}
+use Rattle.sections.specs.Kinds as kinds
 use Rattle.sections.specs.Kinds.{leastPayloadOf}
-use Rattle.framing.specs.Framing.{section, payloadAt, readAt}
+use Rattle.framing.specs.Framing.{sectionAt, payloadAt, readAt}
 use Rattle.framing.specs.declared.read.Section.{Section}
 use Rattle.framing.specs.declared.read.Cursor.{Cursor}
 use Rattle.framing.specs.Read as read
@@ -29,29 +30,29 @@ use Rattle.reading.specs.declared.quick.Ahead.the-variants as ahead
 -- what was read last, after a section of this number
 unfoldable pub lastRead : ℕ → Order
 lastRead number =
-    pick (eqb number 0) AfterIndicator
-    (pick (eqb number 1) AfterIdentification
-    (pick (eqb number 2) AfterLocalUse
-    (pick (eqb number 3) AfterGrid
-    (pick (eqb number 4) AfterProduct
-    (pick (eqb number 5) AfterRepresentation
-    (pick (eqb number 6) AfterBitMap AfterData))))))
+    pick (eqb number (kinds.indicator .number)) AfterIndicator
+    (pick (eqb number (kinds.identification .number)) AfterIdentification
+    (pick (eqb number (kinds.localUse .number)) AfterLocalUse
+    (pick (eqb number (kinds.gridDefinition .number)) AfterGrid
+    (pick (eqb number (kinds.prodDefinition .number)) AfterProduct
+    (pick (eqb number (kinds.reprDefinition .number)) AfterRepresentation
+    (pick (eqb number (kinds.bitMap .number)) AfterBitMap AfterData))))))
 
 -- of a section with this header nothing is refused, if its message has room for it
 unfoldable pub WholeAhead : ℕ → ℕ → ℕ → Bool → Type 0
 WholeAhead number len left answer =
     answer ≡ true
-    → (5 ≤ len)
+    → (kinds.headerSize ≤ len)
     × ((at rest : ℕ)
     → len ≤ rest
     → payloadAt (leastPayloadOf number) at number len left rest
-    ≡ section number at len (rest - len))
+    ≡ sectionAt number at len (rest - len))
 
 -- a section of this number fits the order, and completes no submessage before it
 pub record Fitting (order : Order) (number : ℕ) : Type 0 where
   pub fits : judged order number ≡ Fits (lastRead number)
   pub completing : completes order number ≡ false
-  pub kept : number < 8
+  pub kept : number < kinds.endSection .number
 
 unfoldable pub Usual : Order → ℕ → Bool → Type 0
 Usual order number answer = answer ≡ true → Fitting order number

@@ -8,7 +8,7 @@ use native.Mathlib.Omega.{arith}
 use borrow.Author.Tests.{lt-ltb, le-ltb, ltb-false}
 use lib.Dec.{ltb}
 use lib.ListN.{length, getD}
-use Rattle.octets.specs.Choice.{pick}
+use Rattle.octets.specs.Words.{pick}
 use Rattle.octets.specs.BigEndian.{beAt}
 use Rattle.replaying.specs.Requests.{walkRequestAt, pullRequestAt, copyRequestAt}
 use Rattle.replaying.specs.Requests.{writeRequestAt, fieldsRequestAt, signedRequestAt}

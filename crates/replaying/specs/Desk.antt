@@ -8,7 +8,8 @@ use Rattle.index.specs.declared.line.Line.{Line}
 use Rattle.index.specs.declared.line.LocalUsePlace.the-variants.{At}
 use Rattle.walk.specs.Tables.{Tabled, walkOf}
 
-abbrev largest : ℕ
+-- the largest number
+abbrev pub largest : ℕ
 largest = 18446744073709551615
 
 -- a line that nothing was stored into

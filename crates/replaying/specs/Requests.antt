@@ -4,7 +4,7 @@ use Prim.Native.Nat.{ℕ, _+_, _*_, _≤_}
 use mathlib.Core.List.{List}
 use lib.Dec.{eqb, ltb, leb}
 use lib.ListN.{length, getD}
-use Rattle.octets.specs.Choice.{pick}
+use Rattle.octets.specs.Words.{pick}
 use Rattle.octets.specs.BigEndian.{beAt}
 use Rattle.replaying.specs.declared.requests.Request.{Request}
 use Rattle.replaying.specs.declared.requests.Writing.{Writing}

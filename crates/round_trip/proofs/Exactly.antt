@@ -8,14 +8,14 @@ use mathlib.Core.Logic.{inl, inr, ⊎-elim}
 use lib.Dec.{ltb}
 use lib.ListN.{length}
 use borrow.Author.Tests.{ltb-true, ltb-false, lt-ltb, le-ltb}
-use Rattle.octets.specs.Choice.{pick}
+use Rattle.octets.specs.Words.{pick, Iff}
 use Rattle.framing.proofs.Tests.{by-test}
 use Rattle.index.specs.Bounds.{mostOctets}
 use Rattle.writer.specs.Plan.{Part, Finding, noFault, faultAt, mostSections, planPlace, partsOf, misfit, firstAt, isOutside, isWrongSize, totalOf, unless, judgedPlan}
 use Rattle.writer.specs.Write.{writeOf}
 use Rattle.writer.specs.declared.Written.{Written}
 use Rattle.writer.specs.declared.Written.the-variants.{Whole, TooManySections, NotOneMessage, OutsideStore, PayloadSize, NoRoom}
-use Rattle.round_trip.specs.Faults.{Iff, FirstAt, AtNone, OneMessage, FirstMisfit, Outside, WrongSize, TooLarge, GivenWhen}
+use Rattle.round_trip.specs.Faults.{FirstAt, AtNone, OneMessage, FirstMisfit, Outside, WrongSize, TooLarge, GivenWhen}
 use Rattle.round_trip.proofs.First.{outside-iff, inside-iff, wrong-iff, sized-iff}
 use Rattle.round_trip.proofs.Ordered.{misfit-iff, message-iff, not-one-iff}
 

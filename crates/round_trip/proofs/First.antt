@@ -9,13 +9,13 @@ use mathlib.Core.Logic.{_⊎_, inl, inr, ⊎-elim}
 use lib.Dec.{ltb}
 use lib.ListN.{length}
 use borrow.Author.Tests.{ltb-true}
-use Rattle.octets.specs.Choice.{pick}
+use Rattle.octets.specs.Words.{pick, Iff}
 use Rattle.sections.specs.Kinds.{leastPayloadOf}
 use Rattle.sections.specs.declared.kinds.LeastPayload.{LeastPayload}
 use Rattle.sections.specs.declared.kinds.LeastPayload.the-variants.{Octets, NoHeader}
 use Rattle.writer.specs.Plan.{Part, noFault, faultAt, planPlace, firstAt, isOutside, isWrongSize}
 use Rattle.writer.proofs.Checks.{not-passed, same-place, inside-is, sized-is, not-long}
-use Rattle.round_trip.specs.Faults.{Iff, partAt, FirstAt, AtNone, Outside, WrongSize}
+use Rattle.round_trip.specs.Faults.{partAt, FirstAt, AtNone, Outside, WrongSize}
 
 -- a test decides what is at fault
 record Decides (faulty : Part → Bool) (Faulty : Part → Type 0) : Type 0 where

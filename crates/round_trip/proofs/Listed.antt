@@ -13,7 +13,7 @@ use Rattle.octets.specs.BigEndian.{beAt}
 use Rattle.sections.specs.Kinds.{leastPayloadOf, kindOf, kinds}
 use Rattle.sections.specs.declared.kinds.LeastPayload.the-variants.{Octets}
 use Rattle.framing.specs.Search.{says, startsAt, startAmong, nextStart}
-use Rattle.framing.specs.Framing.{section as sectionAt, indicatorAt, endAt, isCut, payloadAt, headerAt, messageAt, readAt}
+use Rattle.framing.specs.Framing.{sectionAt as sectionAt, indicatorAt, endAt, isCut, payloadAt, headerAt, messageAt, readAt}
 use Rattle.framing.specs.Listing.{over, listing}
 use Rattle.framing.specs.declared.read.Section.{Section}
 use Rattle.framing.specs.Read.{Over}
@@ -24,15 +24,15 @@ use Rattle.writer.specs.Message.{digits, indicatorOctets, sectionOctets, bodyOc
 use Rattle.writer.proofs.Checks.{Sound, AllSound, none, one}
 use Rattle.writer.proofs.Stored.{length-digits}
 use Rattle.writer.proofs.Lengths.{length-section, length-indicator}
-use Rattle.round_trip.specs.ReadBack.{row, sectionsFrom, messageSections}
+use Rattle.round_trip.specs.ReadBack.{listedAs, sectionsFrom, messageSections}
 use Rattle.round_trip.proofs.Numbers.{be-behind, be-digits}
 
 -- the plan's sections from an offset on, and section 8
 unfoldable pub toEnd : ℕ → List Part → List Section
-toEnd at [] = row 8 at 4 ∷ []
-toEnd at (part ∷ more) = row (part .number) at (part .length + 5) ∷ toEnd (at + (part .length + 5)) more
+toEnd at [] = listedAs 8 at 4 ∷ []
+toEnd at (part ∷ more) = listedAs (part .number) at (part .length + 5) ∷ toEnd (at + (part .length + 5)) more
 
-pub to-end : (at : ℕ) (parts : List Part) → toEnd at parts ≡ sectionsFrom at parts ++ (row 8 (at + sectionsSize parts) 4 ∷ [])
+pub to-end : (at : ℕ) (parts : List Part) → toEnd at parts ≡ sectionsFrom at parts ++ (listedAs 8 (at + sectionsSize parts) 4 ∷ [])
 unfolding toEnd sectionsFrom sectionsSize
 to-end at [] = rw add-zero
 to-end at (part ∷ more) = rw (to-end (at + (part .length + 5)) more, add-assoc at (part .length + 5) (sectionsSize more))

@@ -4,7 +4,8 @@ use Prim.Native.Nat.{ℕ, zero, suc, _+_}
 use native.Mathlib.Omega.{arith}
 use mathlib.Core.Path.{_≡_, refl, _∙_}
 use mathlib.Core.List.{List, [], _∷_, _++_}
-use Rattle.order.specs.Order.{judged, isBetween, followed, orderFrom, orderOf}
+use Rattle.octets.specs.Words.{Iff}
+use Rattle.order.specs.Order.{judged, isBetween, thenJudged, orderFrom, orderOf}
 use Rattle.order.specs.declared.Order.{Order}
 use Rattle.order.specs.declared.Order.the-variants.{AfterIndicator}
 use Rattle.order.specs.declared.Judged.{Judged}
@@ -13,7 +14,7 @@ use Rattle.order.specs.declared.Verdict.the-variants.{Clean}
 use Rattle.order.proofs.Laws.{fits-below, closes-only}
 use Rattle.writer.specs.Plan.{Part}
 use Rattle.round_trip.specs.ReadBack.{numbersOf}
-use Rattle.round_trip.specs.Faults.{Iff, AtNone, Reaches, arrived, on, EndsAfter, OneMessage}
+use Rattle.round_trip.specs.Faults.{AtNone, Reaches, arrived, on, EndsAfter, OneMessage}
 
 -- a section 8 in a plan
 abbrev pub IsEnd : Part → Type 0
@@ -36,7 +37,7 @@ ends : (order : Order) (from : ℕ) (parts : List Part) → AtNone IsEnd parts �
 unfolding orderFrom
 ends order from [] none e = go (judged order 8) refl e
   where
-    go : (w : Judged) → judged order 8 ≡ w → followed w from (λ next. orderFrom next (from + 1) []) ≡ Clean → EndsAfter order []
+    go : (w : Judged) → judged order 8 ≡ w → thenJudged w from (λ next. orderFrom next (from + 1) []) ≡ Clean → EndsAfter order []
     go (Fits next) w e = absurd (let below = fits-below order 8 w in omega arith)
     go Closes w e = record { last = order; ordered = arrived; closed = w }
     go Misplaced w e = absurd (let z : _≡_ {A = ℕ} 0 1 = cc in omega arith)
@@ -45,7 +46,7 @@ ends order from (part ∷ more) none e =
     go (judged order (part .number)) refl e (λ next. ends next (from + 1) more (λ k inside. none (suc k) (omega arith)))
   where
     go : (w : Judged) → judged order (part .number) ≡ w
-        → followed w from (λ next. orderFrom next (from + 1) (numbersOf more ++ (8 ∷ []))) ≡ Clean
+        → thenJudged w from (λ next. orderFrom next (from + 1) (numbersOf more ++ (8 ∷ []))) ≡ Clean
         → ((next : Order) → orderFrom next (from + 1) (numbersOf more ++ (8 ∷ [])) ≡ Clean → EndsAfter next more)
         → EndsAfter order (part ∷ more)
     go (Fits next) w e ih = let m = ih next e in record { last = m .last; ordered = on w (m .ordered); closed = m .closed }

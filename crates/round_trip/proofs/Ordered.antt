@@ -6,6 +6,7 @@ use mathlib.Core.Path.{_≡_, refl, sym, ap, subst, _∙_}
 use mathlib.Core.Bool.{false}
 use mathlib.Core.List.{List, [], _∷_}
 use mathlib.Core.Logic.{inl, inr, ⊎-elim}
+use Rattle.octets.specs.Words.{Iff}
 use Rattle.order.specs.Order.{judged, isBetween}
 use Rattle.order.specs.declared.Order.{Order}
 use Rattle.order.specs.declared.Order.the-variants.{AfterIndicator}
@@ -14,7 +15,7 @@ use Rattle.order.specs.declared.Judged.the-variants.{Fits, Closes, Misplaced, N
 use Rattle.order.proofs.Laws.{fits-below, fits-open, closes-only}
 use Rattle.writer.specs.Plan.{Part, Finding, noFault, faultAt, planPlace, orAt, closedAt, misfitFrom, misfit}
 use Rattle.writer.proofs.Checks.{not-passed, same-place, misfit-on, misfit-passed, misfit-closed, fits-from-1}
-use Rattle.round_trip.specs.Faults.{Iff, CantCome, Reaches, arrived, on, EndsAfter, OneMessage, Misfits, MisfitAfter, FirstMisfit}
+use Rattle.round_trip.specs.Faults.{CantCome, Reaches, arrived, on, EndsAfter, OneMessage, Misfits, MisfitAfter, FirstMisfit}
 
 -- nothing more is read
 reaches-here : {order last : Order} → Reaches order [] last → order ≡ last

@@ -10,11 +10,11 @@ use Rattle.writer.specs.Message.{digits, indicatorOctets, sectionOctets, bodyOc
 use Rattle.writer.proofs.Checks.{Sound, AllSound, none, one}
 use Rattle.writer.proofs.Stored.{length-digits}
 use Rattle.writer.proofs.Lengths.{length-payload, length-section, length-indicator}
-use Rattle.round_trip.specs.ReadBack.{row, sectionsFrom, numbersOf, partOf, payloadIn}
+use Rattle.round_trip.specs.ReadBack.{listedAs, sectionsFrom, numbersOf, partOf, payloadIn}
 
 -- behind any octets
 payload-there : (store front later : List ℕ) (part : Part) → Sound (length store) part
-    → payloadIn (front ++ (sectionOctets part store ++ later)) (row (part .number) (length front) (part .length + 5)) ≡ partOf store part
+    → payloadIn (front ++ (sectionOctets part store ++ later)) (listedAs (part .number) (length front) (part .length + 5)) ≡ partOf store part
 unfolding sectionOctets
 payload-there store front later part sound =
     let header = digits 4 (part .length + 5) ++ (part .number ∷ []) in
@@ -52,7 +52,7 @@ payloads discipline reserved₁ reserved₂ parts store sound =
 
 -- the numbers listed are the plan's, and an 8
 pub numbers-from : (at end : ℕ) (parts : List Part)
-    → map (λ section. section .number) (sectionsFrom at parts ++ (row 8 end 4 ∷ [])) ≡ numbersOf parts ++ (8 ∷ [])
+    → map (λ section. section .number) (sectionsFrom at parts ++ (listedAs 8 end 4 ∷ [])) ≡ numbersOf parts ++ (8 ∷ [])
 unfolding sectionsFrom
 numbers-from at end [] = refl
 numbers-from at end (part ∷ more) = let ih = numbers-from (at + (part .length + 5)) end more in cc

@@ -8,7 +8,7 @@ use mathlib.Core.List.{List, [], _∷_}
 use lib.Dec.{eqb}
 use lib.ListN.{length, length-append}
 use borrow.Author.Tests.{lt-leb}
-use Rattle.octets.specs.Choice.{pick}
+use Rattle.octets.specs.Words.{pick}
 use Rattle.order.specs.Order.{judged, completes, isBetween}
 use Rattle.order.specs.declared.Order.{Order}
 use Rattle.order.specs.declared.Order.the-variants.{
@@ -33,7 +33,7 @@ use Rattle.index.specs.declared.bounds.Room.{Room}
 use Rattle.index.specs.Walk.{Reached, atStart, passes, here, fitted, closing, byOrder, judgement, concluded, walkedFrom}
 use Rattle.writer.specs.Plan.{Part, noFault, misfitFrom, misfit}
 use Rattle.writer.proofs.Checks.{misfit-passed, misfit-closed}
-use Rattle.round_trip.specs.ReadBack.{row, linesIn, WalksClean}
+use Rattle.round_trip.specs.ReadBack.{listedAs, linesIn, WalksClean}
 use Rattle.round_trip.proofs.Listed.{toEnd}
 
 -- a line is due after a section 7
@@ -151,7 +151,7 @@ clean-more room r s more order d n g c =
 
 -- section 8 closes
 clean-close : (room : Room) (r : Reached) (at : ℕ) → r .order ≡ AfterData → r .sections < room .rows → r .lines < room .lines
-    → WalksClean (walkedFrom room r (row 8 at 4 ∷ []) over) (row 8 at 4 ∷ []) 1
+    → WalksClean (walkedFrom room r (listedAs 8 at 4 ∷ []) over) (listedAs 8 at 4 ∷ []) 1
 unfolding walkedFrom judgement completes judged byOrder closing concluded isBetween
 clean-close room r at e rows lines =
     rw (e, lt-leb (room .rows) (r .sections) rows, lt-leb (room .lines) (r .lines) lines)
@@ -172,7 +172,7 @@ clean-from room r from at [] passed rows lines =
     rw one (clean-close room r at after (omega arith) (omega arith))
 clean-from room r from at (part ∷ more) passed rows lines =
     let step = misfit-passed (r .order) from part more passed in
-    let s = row (part .number) at (part .length + 5) in
+    let s = listedAs (part .number) at (part .length + 5) in
     let g = goes room r s (step .0) (step .1) (omega arith) (omega arith) in
     let sections = g .sections in
     let count = g .count in
@@ -188,11 +188,11 @@ clean-from room r from at (part ∷ more) passed rows lines =
 
 -- a message from its section 0 on
 pub clean-message : (room : Room) (parts : List Part) → misfit parts ≡ noFault → 2 + length parts ≤ room .rows → linesIn parts ≤ room .lines
-    → WalksClean (walkedFrom room atStart (row 0 0 16 ∷ toEnd 16 parts) over) (row 0 0 16 ∷ toEnd 16 parts) (linesIn parts)
+    → WalksClean (walkedFrom room atStart (listedAs 0 0 16 ∷ toEnd 16 parts) over) (listedAs 0 0 16 ∷ toEnd 16 parts) (linesIn parts)
 unfolding due judged
 clean-message room parts passed rows lines =
-    let g : Goes room atStart (row 0 0 16) AfterIndicator 0 =
-    goes room atStart (row 0 0 16) AfterIndicator refl (omega arith) (omega arith) in
+    let g : Goes room atStart (listedAs 0 0 16) AfterIndicator 0 =
+    goes room atStart (listedAs 0 0 16) AfterIndicator refl (omega arith) (omega arith) in
     let sections = g .sections in
     let count = g .count in
     let reached = g .reached in
@@ -202,4 +202,4 @@ clean-message room parts passed rows lines =
     let lines-0 : WalksClean (walkedFrom room (g .next) (toEnd 16 parts) over) (toEnd 16 parts) (0 + linesIn parts) =
     subst (λ (n : ℕ). WalksClean (walkedFrom room (g .next) (toEnd 16 parts) over) (toEnd 16 parts) (n + linesIn parts)) none rest in
     rw (zero-add (0 + linesIn parts), zero-add (linesIn parts))
-    at (clean-more room atStart (row 0 0 16) (toEnd 16 parts) AfterIndicator 0 (0 + linesIn parts) g lines-0)
+    at (clean-more room atStart (listedAs 0 0 16) (toEnd 16 parts) AfterIndicator 0 (0 + linesIn parts) g lines-0)

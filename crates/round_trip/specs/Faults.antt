@@ -22,9 +22,6 @@ use Rattle.writer.specs.declared.Written.the-variants.{
   NoRoom,
 }
 
-abbrev pub Iff : Type 0 → Type 0 → Type 0
-Iff A B = (A → B) × (B → A)
-
 -- the section at a place of a plan
 abbrev pub partAt : List Part → ℕ → Part
 partAt parts k = getD parts k (record { number = 0; offset = 0; length = 0 })

@@ -4,7 +4,7 @@ use mathlib.Core.Path.{_≡_}
 use mathlib.Core.List.{List, [], _∷_, _++_, map}
 use lib.Dec.{eqb}
 use lib.ListN.{length, take, drop}
-use Rattle.octets.specs.Choice.{pick}
+use Rattle.octets.specs.Words.{pick}
 use Rattle.sections.specs.Indicator.{indicatorOf}
 use Rattle.sections.specs.declared.indicator.MaybeIndicator.the-variants.{Fields}
 use Rattle.framing.specs.Listing.{over, listing}
@@ -15,20 +15,20 @@ use Rattle.index.specs.Walk.{Told, walked}
 use Rattle.writer.specs.Plan.{Part, sectionsSize}
 
 -- a line of the section table
-abbrev pub row : ℕ → ℕ → ℕ → Section
-row number offset length =
+abbrev pub listedAs : ℕ → ℕ → ℕ → Section
+listedAs number offset length =
     record { number = number; offset = record { 0 = offset }; length = length }
 
 -- a plan's sections, one after the other from an offset on: each with its payload and 5
 unfoldable pub sectionsFrom : ℕ → List Part → List Section
 sectionsFrom at [] = []
 sectionsFrom at (part ∷ more) =
-    row (part .number) at (part .length + 5) ∷ sectionsFrom (at + (part .length + 5)) more
+    listedAs (part .number) at (part .length + 5) ∷ sectionsFrom (at + (part .length + 5)) more
 
 -- those of its message: 0 before them and 8 after
 abbrev pub messageSections : List Part → List Section
 messageSections parts =
-    row 0 0 16 ∷ (sectionsFrom 16 parts ++ (row 8 (16 + sectionsSize parts) 4 ∷ []))
+    listedAs 0 0 16 ∷ (sectionsFrom 16 parts ++ (listedAs 8 (16 + sectionsSize parts) 4 ∷ []))
 
 -- the plan's numbers
 abbrev pub numbersOf : List Part → List ℕ

@@ -3,7 +3,7 @@ use Prim.Native.Nat.{ℕ}
 use mathlib.Core.List.{List}
 use lib.Dec.{ltb}
 use lib.ListN.{length, getD}
-use Rattle.octets.specs.Choice.{pick}
+use Rattle.octets.specs.Words.{pick}
 use Rattle.sections.specs.Kinds.{leastBitMap}
 use Rattle.sections.specs.declared.bit_map.MaybeBitMap.{MaybeBitMap}
 use Rattle.sections.specs.declared.bit_map.MaybeBitMap.the-variants.{Fields, NoBitMap}

@@ -3,7 +3,7 @@
 use Prim.Native.Nat.{ℕ}
 use mathlib.Core.List.{List, [], _∷_}
 use lib.Dec.{eqb}
-use Rattle.octets.specs.Choice.{pick}
+use Rattle.octets.specs.Words.{pick}
 use Rattle.sections.specs.declared.kinds.Extent.{Extent}
 use Rattle.sections.specs.declared.kinds.Extent.the-variants.{WholeSize, LeastPayload}
 use Rattle.sections.specs.declared.kinds.Values.{Values}

@@ -17,7 +17,7 @@ use Rattle.index.specs.declared.line.LocalUsePlace.{LocalUsePlace}
 use Rattle.index.specs.declared.line.LocalUsePlace.the-variants.{At}
 use Rattle.index.specs.declared.refusal.Outcome.{Outcome}
 use Rattle.index.specs.Walk.{Reached, here, walked}
-use Rattle.walk.specs.Tables.{roomOf, stored}
+use Rattle.walk.specs.Tables.{roomOf, storedOver}
 use Rattle.walk.specs.declared.lines.Answer.{Answer}
 use Rattle.walk.specs.Put.{putAt, rowOf}
 use Rattle.walk.specs.Standing.{
@@ -82,8 +82,8 @@ module _ (file rows₀ lines₀ : List ℕ) where
   abbrev pub meant : Out 12 lineNumbers twelve
   meant = tables.meant 12 lineNumbers twelve file rows₀ lines₀ (length lines₀ / 12) (in-room (length lines₀))
 
-  lines-are : meant .lines ≡ stored (linesOf (walked (roomOf (length rows₀) (length lines₀ / 12)) file .lines)) lines₀
-  lines-are = tables.lines-meant 12 lineNumbers twelve file rows₀ lines₀ (length lines₀ / 12) (in-room (length lines₀)) ∙ ap (λ (l : List ℕ). stored l lines₀) (same-lines _)
+  lines-are : meant .lines ≡ storedOver (linesOf (walked (roomOf (length rows₀) (length lines₀ / 12)) file .lines)) lines₀
+  lines-are = tables.lines-meant 12 lineNumbers twelve file rows₀ lines₀ (length lines₀ / 12) (in-room (length lines₀)) ∙ ap (λ (l : List ℕ). storedOver l lines₀) (same-lines _)
 
   abbrev pub KeptAt : Standing → LocalUsePlace → List Place → List ℕ → List ℕ → Type 0
   KeptAt at local places rows lines = Kept (reachedAt at local places) (at .reading .cursor) rows lines

@@ -9,7 +9,7 @@ use native.Mathlib.Omega.{arith}
 use lib.Dec.{ltb, leb, eqb}
 use lib.ListN.{length}
 use borrow.Author.Tests.{lt-ltb, le-ltb, le-leb, lt-leb}
-use Rattle.octets.specs.Choice.{pick}
+use Rattle.octets.specs.Words.{pick}
 use Rattle.order.specs.Order.{completes}
 use Rattle.order.specs.declared.Place.{Place}
 use Rattle.order.specs.declared.Order.the-variants.{SubmessageStart}
@@ -27,7 +27,7 @@ use Rattle.index.specs.declared.refusal.Outcome.the-variants as outcome
 use Rattle.index.specs.Bounds.{mostOctets}
 use Rattle.index.specs.declared.bounds.Room.{Room}
 use Rattle.index.specs.Walk.{Reached, atStart, here, Judgement, fitted, closing, goneOn, Told, ends, followed, walked}
-use Rattle.walk.specs.Tables.{rowsOf, stored, answerOf}
+use Rattle.walk.specs.Tables.{rowsOf, storedOver, answerOf}
 use Rattle.walk.specs.declared.lines.Answer.{Answer}
 use Rattle.walk.specs.Put.{putAt}
 use Rattle.walk.proofs.Put.{put-none, put-more, put-length, put-stored}
@@ -177,11 +177,11 @@ module _ {A : Type 0} (width : ℕ) (encode : Line → List A) (wide : (l : Line
   unfolding out
   answer-meant = zeros (length (told .sections)) (length (told .lines)) (told .messages) (told .outcome)
 
-  pub rows-meant : meant .rows ≡ stored (rowsOf (told .sections)) rows₀
+  pub rows-meant : meant .rows ≡ storedOver (rowsOf (told .sections)) rows₀
   unfolding out
   rows-meant = put-stored (rowsOf (told .sections)) rows₀
 
-  pub lines-meant : meant .lines ≡ stored (encoded width encode wide (told .lines)) lines₀
+  pub lines-meant : meant .lines ≡ storedOver (encoded width encode wide (told .lines)) lines₀
   unfolding out
   lines-meant =
       ap (λ (i : ℕ). putAt i (encoded width encode wide (told .lines)) lines₀) (zero-mul width)

@@ -9,7 +9,7 @@ use native.Mathlib.Omega.{arith}
 use lib.Dec.{ltb, leb}
 use lib.ListN.{length}
 use borrow.Author.Tests.{lt-ltb, leb-true, leb-false, ltb-true, ltb-false}
-use Rattle.octets.specs.Choice.{pick}
+use Rattle.octets.specs.Words.{pick}
 use Rattle.framing.specs.declared.read.Section.{Section}
 use Rattle.framing.specs.declared.read.Cursor.{Cursor}
 use Rattle.framing.proofs.Tests.{by-test, never-both}
@@ -28,7 +28,7 @@ use Rattle.reading.specs.declared.Reading.{Reading}
 use Rattle.reading.specs.declared.Seen.{Seen}
 use Rattle.reading.specs.declared.Seen.the-variants.{Passes, Closes, Misplaced, NoGrid, Clean, InputOver, Unreadable}
 use Rattle.reading.proofs.Moves.{passes-stands, closes-stands}
-use Rattle.walk.specs.Tables.{roomOf, stored, walkOf}
+use Rattle.walk.specs.Tables.{roomOf, storedOver, walkOf}
 use Rattle.walk.specs.Turns.{
   rowsAfter,
   linesAfter,
@@ -150,8 +150,8 @@ module _ (file rows₀ : List ℕ) (lines₀ : List Line) where
     pub rows : now₁ ≡ walkOf file rows₀ lines₀ .rows
     pub lines : now₂ ≡ walkOf file rows₀ lines₀ .lines
 
-  lines-are : meant .lines ≡ stored (walked (roomOf (length rows₀) (length lines₀)) file .lines) lines₀
-  lines-are = lent.lines-meant 1 one wide file rows₀ lines₀ (length lines₀) (enough lines₀) ∙ ap (λ (l : List Line). stored l lines₀) (same-lines _)
+  lines-are : meant .lines ≡ storedOver (walked (roomOf (length rows₀) (length lines₀)) file .lines) lines₀
+  lines-are = lent.lines-meant 1 one wide file rows₀ lines₀ (length lines₀) (enough lines₀) ∙ ap (λ (l : List Line). storedOver l lines₀) (same-lines _)
 
   pub ran : (t : Tally) (rows : List ℕ) (lines : List Line) → Held t rows lines → t .going ≡ false → Ran t rows lines
   unfolding walkOf

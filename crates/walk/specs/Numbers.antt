@@ -9,7 +9,7 @@ use Rattle.index.specs.declared.line.LocalUsePlace.{LocalUsePlace}
 use Rattle.index.specs.declared.line.LocalUsePlace.the-variants.{At, Absent}
 use Rattle.index.specs.Numbers.{endOf}
 use Rattle.index.specs.Walk.{walked}
-use Rattle.walk.specs.Tables.{roomOf, rowsOf, stored, answerOf}
+use Rattle.walk.specs.Tables.{roomOf, rowsOf, storedOver, answerOf}
 use Rattle.walk.specs.declared.lines.Answer.{Answer}
 use Rattle.walk.specs.declared.numbers.WalkAnswer.{WalkAnswer}
 
@@ -72,6 +72,6 @@ walkNumbers file rows lines =
     let told = walked (roomOf (length rows) (length lines / 12)) file in
     record {
       answer = sevenOf (answerOf told);
-      rows = stored (rowsOf (told .sections)) rows;
-      lines = stored (linesOf (told .lines)) lines;
+      rows = storedOver (rowsOf (told .sections)) rows;
+      lines = storedOver (linesOf (told .lines)) lines;
     }

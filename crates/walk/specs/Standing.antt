@@ -3,7 +3,7 @@ use Prim.Native.Nat.{ℕ, _+_, _*_, _/_}
 use mathlib.Core.List.{List}
 use lib.Dec.{leb}
 use lib.ListN.{length}
-use Rattle.octets.specs.Choice.{pick}
+use Rattle.octets.specs.Words.{pick}
 use Rattle.framing.specs.declared.read.Fault.{Fault}
 use Rattle.framing.specs.declared.read.Offset.{Offset}
 use Rattle.framing.specs.declared.read.Section.{Section}
@@ -97,8 +97,8 @@ endedAt at end =
       outcome = end;
     })
 
-abbrev pub refusedAt : Standing → Refusal → Section → WalkAnswer
-refusedAt at why s = endedAt at (outcome.Refused why (place (at .sections)) (s .offset))
+abbrev pub refusedHere : Standing → Refusal → Section → WalkAnswer
+refusedHere at why s = endedAt at (outcome.Refused why (place (at .sections)) (s .offset))
 
 -- the file is too long, the input is over inside a message, or a section can't be read
 abbrev pub longAnswer : WalkAnswer
@@ -116,9 +116,9 @@ unreadableAt at fault offset =
 unfoldable pub misplacedAnswer : ℕ → Standing → Section → WalkAnswer
 misplacedAnswer room at s =
     pick (completes (at .reading .order) (s .number))
-    (pick (leb room (at .lines)) (refusedAt at refusal.SubmessageTableFull s)
-    (refusedAt (toldLine at) (refusal.Misplaced (s .number)) s))
-    (refusedAt at (refusal.Misplaced (s .number)) s)
+    (pick (leb room (at .lines)) (refusedHere at refusal.SubmessageTableFull s)
+    (refusedHere (toldLine at) (refusal.Misplaced (s .number)) s))
+    (refusedHere at (refusal.Misplaced (s .number)) s)
 
 -- .. and what it leaves in the table
 unfoldable pub misplacedLines : Standing → Line → Section → List ℕ → List ℕ

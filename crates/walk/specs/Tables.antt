@@ -19,8 +19,8 @@ rowsOf [] = []
 rowsOf (s ∷ more) = s .number ∷ s .offset .0 ∷ s .length ∷ rowsOf more
 
 -- a table that was lent: what is stored, and behind it what was there before
-abbrev pub stored : {A : Type 0} → List A → List A → List A
-stored new before = new ++ drop (length new) before
+abbrev pub storedOver : {A : Type 0} → List A → List A → List A
+storedOver new before = new ++ drop (length new) before
 
 -- section lines, submessage lines and messages closed, and how the walk ended
 abbrev pub answerOf : Told → Answer
@@ -44,6 +44,6 @@ walkOf file rows lines =
     let told = walked (roomOf (length rows) (length lines)) file in
     record {
       answer = answerOf told;
-      rows = stored (rowsOf (told .sections)) rows;
-      lines = stored (told .lines) lines;
+      rows = storedOver (rowsOf (told .sections)) rows;
+      lines = storedOver (told .lines) lines;
     }

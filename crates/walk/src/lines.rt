@@ -79,9 +79,12 @@ fn put_line(lines: &mut [Line], due: bool, slot: usize, line: Line)
 // Walks a file. The section table is lent as numbers, three to a row; one or two left over are no
 // room. Lines that were stored before a refusal stand, and room beyond the counts is untouched.
 pub fn walk(file: &[u8], rows: &mut [u64], lines: &mut [Line]) -> Answer
-    ensures answer { λ r. ⌜ r ≡ walkOf (now (file .entry)) (now (rows .entry)) (now (lines .entry)) .answer ⌝ }
-    ensures rows { λ r. ⌜ now (rows .exit) ≡ walkOf (now (file .entry)) (now (rows .entry)) (now (lines .entry)) .rows ⌝ }
-    ensures lines { λ r. ⌜ now (lines .exit) ≡ walkOf (now (file .entry)) (now (rows .entry)) (now (lines .entry)) .lines ⌝ }
+    ensures answer { λ r. ⌜ r
+        ≡ walkOf (now (file .entry)) (now (rows .entry)) (now (lines .entry)) .answer ⌝ }
+    ensures rows { λ r. ⌜ now (rows .exit)
+        ≡ walkOf (now (file .entry)) (now (rows .entry)) (now (lines .entry)) .rows ⌝ }
+    ensures lines { λ r. ⌜ now (lines .exit)
+        ≡ walkOf (now (file .entry)) (now (rows .entry)) (now (lines .entry)) .lines ⌝ }
 {
     let room = lines.len();
     let mut t = begin(file);

@@ -4,7 +4,7 @@ ghost use Prim.Native.Nat.{_/_, _≤_};
 ghost use lib.ListN.{length};
 ghost use Rattle.walk.specs.Tables.{roomOf};
 ghost use Rattle.walk.specs.Numbers.{walkNumbers};
-ghost use Rattle.walk.specs.Standing.{endedAt, refusedAt, overAt, unreadableAt, longAnswer};
+ghost use Rattle.walk.specs.Standing.{endedAt, refusedHere, overAt, unreadableAt, longAnswer};
 ghost use Rattle.walk.specs.Standing.{misplacedAnswer, misplacedLines};
 use crate::rows::ROW;
 use crate::rows::put_row;
@@ -74,7 +74,7 @@ fn ended(at: Standing, outcome: Outcome) -> WalkAnswer
 
 // .. at the section in hand, which is refused.
 fn refused(at: Standing, why: Refusal, section: Section) -> WalkAnswer
-    ensures { λ r. ⌜ r ≡ refusedAt at why section ⌝ }
+    ensures { λ r. ⌜ r ≡ refusedHere at why section ⌝ }
 {
     let offset = section.offset;
     ended(at, Outcome::Refused(why, Place(at.sections), offset))
@@ -133,9 +133,12 @@ fn too_long() -> WalkAnswer
 // is left over is no room. Lines that were stored before a refusal stand, and room beyond the
 // counts is untouched.
 pub fn walk_numbers(file: &[u8], rows: &mut [u64], lines: &mut [u64]) -> WalkAnswer
-    ensures answer { λ r. ⌜ r ≡ walkNumbers (now (file .entry)) (now (rows .entry)) (now (lines .entry)) .answer ⌝ }
-    ensures rows { λ _. ⌜ now (rows .exit) ≡ walkNumbers (now (file .entry)) (now (rows .entry)) (now (lines .entry)) .rows ⌝ }
-    ensures lines { λ _. ⌜ now (lines .exit) ≡ walkNumbers (now (file .entry)) (now (rows .entry)) (now (lines .entry)) .lines ⌝ }
+    ensures answer { λ r. ⌜ r
+        ≡ walkNumbers (now (file .entry)) (now (rows .entry)) (now (lines .entry)) .answer ⌝ }
+    ensures rows { λ _. ⌜ now (rows .exit)
+        ≡ walkNumbers (now (file .entry)) (now (rows .entry)) (now (lines .entry)) .rows ⌝ }
+    ensures lines { λ _. ⌜ now (lines .exit)
+        ≡ walkNumbers (now (file .entry)) (now (rows .entry)) (now (lines .entry)) .lines ⌝ }
 {
     if MOST_OCTETS < file.len() as u64 {
         return too_long();

@@ -1,4 +1,4 @@
--- The samples and the witnesses, by computing. Assumes nothing.
+-- The samples and the witnesses, by computing.
 use mathlib.Core.Path.{refl}
 use lib.ListN.{length, length-replicate}
 use borrow.Author.Tests.{lt-ltb}

@@ -1,4 +1,4 @@
--- How many sections and lines are told, where lines end, and what the tables' room changes. Assumes nothing.
+-- How many sections and lines are told, where lines end, and what the tables' room changes.
 use Prim.Native.Nat.{ℕ, suc, _+_, _-_, _≤_}
 use native.Mathlib.Omega.{arith}
 use native.Mathlib.Nat.{sub-zero}
@@ -9,6 +9,7 @@ use mathlib.Core.Logic.{_⊎_, inl, inr}
 use lib.Dec.{ltb}
 use lib.ListN.{length, length-append}
 use borrow.Author.Tests.{ltb-false, eq-eqb, ne-eqb}
+use Rattle.octets.specs.Words.{Not}
 use Rattle.framing.specs.declared.read.Section.{Section}
 use Rattle.framing.specs.Read.{Read}
 use Rattle.framing.proofs.OneRead.{reads-as, goes}
@@ -21,18 +22,18 @@ use Rattle.index.specs.declared.refusal.Outcome.the-variants as outcome
 use Rattle.index.specs.Bounds.{unlimited}
 use Rattle.index.specs.declared.bounds.Room.{Room}
 use Rattle.index.specs.Walk.{Reached, atStart, Judgement, Told, followed, walked}
-use Rattle.walk_laws.specs.Rows.{Not, First}
+use Rattle.walk_laws.specs.Rows.{FirstRow}
 use Rattle.walk_laws.specs.ExactlyWhen.{
   rowsAfterRead,
   RowsFull,
   LinesFull,
-  section0,
-  section8,
+  hand0,
+  hand8,
   behindHeader,
-  Unreadable,
+  CannotBeRead,
   Comes,
   started,
-  further,
+  goesFurther,
   Given,
   tooLong,
   unread,
@@ -86,7 +87,7 @@ ample-next {r = r} {reached = reached} p ample = go (p .way) (p .counted) (p .on
 -- at every stand
 pub comes-ample : {room : Room} {file : List ℕ} {at rest : ℕ} {r : Reached} → Comes room file at rest r → (r .sections ≤ at) × Ample r
 comes-ample started = (omega arith, ample-start)
-comes-ample {room} {file} (further {at} {rest} {r = r} {s = s} c e f) =
+comes-ample {room} {file} (goesFurther {at} {rest} {r = r} {s = s} c e f) =
     let k = comes-ample c in
     let low = k .0 in
     let forward = goes (reads-as file at rest e) in
@@ -225,7 +226,7 @@ messages-are-closers room file =
         rw (ne-eqb (line .end .0) 0 (λ z. omega arith), so)
 
 -- a row of the tables is first where they are full
-full : (room : Room) (r : Reached) (s : Section) (n d : ℕ) → First (rowsAfterRead room r s) n d
+full : (room : Room) (r : Reached) (s : Section) (n d : ℕ) → FirstRow (rowsAfterRead room r s) n d
     → (n ≡ 13 → RowsFull room r) × (n ≡ 14 → LinesFull room r)
 full room r s n d (inl (h, e, f)) = ((λ z. absurd (omega arith)), λ z. h .1)
 full room r s n d (inr (_, inl (h, e, f))) = ((λ z. absurd (omega arith)), λ z. absurd (omega arith))
@@ -235,13 +236,13 @@ full room r s n d (inr (_, inr (_, inr (_, inr (_, inl (h, e, f)))))) = ((λ z. 
 full room r s n d (inr (_, inr (_, inr (_, inr (_, inr (_, h)))))) = absurd h
 
 -- no read is refused by a row of the tables
-pub to-9 : (file : List ℕ) (at rest n o d : ℕ) → Unreadable file at rest n o d → n ≤ 9
-to-9 file at rest n o d (section0 z first (here, inl (h, e, f))) = omega arith
-to-9 file at rest n o d (section0 z first (here, inr (_, inl (h, e, f)))) = omega arith
-to-9 file at rest n o d (section0 z first (here, inr (_, inr (_, h)))) = absurd h
-to-9 file at rest n o d (section8 z i (here, inl (h, e, f))) = omega arith
-to-9 file at rest n o d (section8 z i (here, inr (_, inl (h, e, f)))) = omega arith
-to-9 file at rest n o d (section8 z i (here, inr (_, inr (_, h)))) = absurd h
+pub to-9 : (file : List ℕ) (at rest n o d : ℕ) → CannotBeRead file at rest n o d → n ≤ 9
+to-9 file at rest n o d (hand0 z first (here, inl (h, e, f))) = omega arith
+to-9 file at rest n o d (hand0 z first (here, inr (_, inl (h, e, f)))) = omega arith
+to-9 file at rest n o d (hand0 z first (here, inr (_, inr (_, h)))) = absurd h
+to-9 file at rest n o d (hand8 z i (here, inl (h, e, f))) = omega arith
+to-9 file at rest n o d (hand8 z i (here, inr (_, inl (h, e, f)))) = omega arith
+to-9 file at rest n o d (hand8 z i (here, inr (_, inr (_, h)))) = absurd h
 to-9 file at rest n o d (behindHeader a b i (here, inl (h, e, f))) = omega arith
 to-9 file at rest n o d (behindHeader a b i (here, inr (_, inl (h, e, f)))) = omega arith
 to-9 file at rest n o d (behindHeader a b i (here, inr (_, inr (_, inl (h, e, f))))) = omega arith

@@ -1,4 +1,4 @@
--- Each refusal by its own row, from the rows in their order. Assumes nothing.
+-- Each refusal by its own row, from the rows in their order.
 use Prim.Native.Nat.{ℕ}
 use native.Mathlib.Omega.{arith}
 use mathlib.Core.Path.{_≡_, refl}
@@ -7,10 +7,10 @@ use mathlib.Core.List.{List}
 use mathlib.Core.Logic.{_⊎_, inl, inr}
 use lib.Dec.{eqb}
 use borrow.Author.Tests.{eq-eqb}
-use Rattle.octets.specs.Choice.{pick}
+use Rattle.octets.specs.Words.{pick, Not}
 use Rattle.framing.proofs.Tests.{and-both}
 use Rattle.order.specs.declared.Order.{Order}
-use Rattle.walk_laws.specs.Rows.{Not, Rows, none, row, First}
+use Rattle.walk_laws.specs.Rows.{Rows, noMore, row, FirstRow}
 use Rattle.walk_laws.specs.ExactlyWhen.{
   rows0,
   rows8,
@@ -20,13 +20,13 @@ use Rattle.walk_laws.specs.ExactlyWhen.{
   PayloadCut,
   RowsFull,
   LinesFull,
-  section0,
-  section8,
+  hand0,
+  hand8,
   behindHeader,
-  Unreadable,
+  CannotBeRead,
   CanCome,
   NoGridYet,
-  Closes,
+  ClosesMessage,
   rowsAfterRead,
 }
 use Rattle.walk_laws.specs.EachNumber.{
@@ -53,11 +53,11 @@ use Rattle.walk_laws.proofs.OneSection.{stopped-exactly-when}
 
 -- no row has the number
 abbrev lacks : Rows → ℕ → Bool
-lacks none n = true
+lacks noMore n = true
 lacks (row number Holds detail later) n = not (eqb n number) && lacks later n
 
-lacking : (rows : Rows) (n d : ℕ) → lacks rows n ≡ true → First rows n d → ⊥
-lacking none n d e h = h
+lacking : (rows : Rows) (n d : ℕ) → lacks rows n ≡ true → FirstRow rows n d → ⊥
+lacking noMore n d e h = h
 lacking (row number Holds detail later) n d e (inl (h, same, f)) =
     let other = and-both (not (eqb n number)) (lacks later n) e .0 in
     let z : _≡_ {A = ℕ} 0 1 = cc (eq-eqb n number same) in
@@ -71,21 +71,21 @@ At true Holds detail d Later = Holds × (d ≡ detail)
 At false Holds detail d Later = Not Holds × Later
 
 abbrev Exact : Rows → ℕ → ℕ → Type 0
-Exact none n d = ⊥
+Exact noMore n d = ⊥
 Exact (row number Holds detail later) n d = At (eqb n number) Holds detail d (Exact later n d)
 
 -- one row has the number
 abbrev once : Rows → ℕ → Bool
-once none n = true
+once noMore n = true
 once (row number Holds detail later) n = pick (eqb n number) (lacks later n) (once later n)
 
 -- the rows behind the first
 abbrev afterFirst : Rows → Rows
-afterFirst none = none
+afterFirst noMore = noMore
 afterFirst (row number Holds detail later) = later
 
-exact : (rows : Rows) (n d : ℕ) → once rows n ≡ true → First rows n d → Exact rows n d
-exact none n d one f = f
+exact : (rows : Rows) (n d : ℕ) → once rows n ≡ true → FirstRow rows n d → Exact rows n d
+exact noMore n d one f = f
 exact (row number Holds detail later) n d one (inl (h, same, f)) = rw (eq-eqb n number same) (h, f)
 exact (row number Holds detail later) n d one (inr (h, f)) = go (eqb n number) one (λ o. exact later n d o f)
   where
@@ -96,32 +96,32 @@ exact (row number Holds detail later) n d one (inr (h, f)) = go (eqb n number) o
 
 module _ (file : List ℕ) (at rest n o d : ℕ) where
   -- the number is that of a row of section 0, of section 8, or behind a header
-  only-0 : lacks (rows8 file at) n ≡ true → lacks (rowsBehindHeader file at rest) n ≡ true → Unreadable file at rest n o d
-      → Due0 file at rest o × First (rows0 file o) n d
-  only-0 a b (section0 {g} z first (here, f)) = rw here ((z, first), f)
-  only-0 a b (section8 z i (here, f)) = absurd (lacking (rows8 file at) n d a f)
+  only-0 : lacks (rows8 file at) n ≡ true → lacks (rowsBehindHeader file at rest) n ≡ true → CannotBeRead file at rest n o d
+      → Due0 file at rest o × FirstRow (rows0 file o) n d
+  only-0 a b (hand0 {g} z first (here, f)) = rw here ((z, first), f)
+  only-0 a b (hand8 z i (here, f)) = absurd (lacking (rows8 file at) n d a f)
   only-0 a b (behindHeader p q i (here, f)) = absurd (lacking (rowsBehindHeader file at rest) n d b f)
 
-  only-8 : lacks (rows0 file at) n ≡ true → lacks (rowsBehindHeader file at rest) n ≡ true → Unreadable file at rest n o d
-      → Due8 file at rest o × First (rows8 file at) n d
-  only-8 a b (section0 {g} z first (here, f)) = absurd (lacking (rows0 file g) n d a f)
-  only-8 a b (section8 z i (here, f)) = ((z, i, here), f)
+  only-8 : lacks (rows0 file at) n ≡ true → lacks (rowsBehindHeader file at rest) n ≡ true → CannotBeRead file at rest n o d
+      → Due8 file at rest o × FirstRow (rows8 file at) n d
+  only-8 a b (hand0 {g} z first (here, f)) = absurd (lacking (rows0 file g) n d a f)
+  only-8 a b (hand8 z i (here, f)) = ((z, i, here), f)
   only-8 a b (behindHeader p q i (here, f)) = absurd (lacking (rowsBehindHeader file at rest) n d b f)
 
-  only-header : lacks (rows0 file at) n ≡ true → lacks (rows8 file at) n ≡ true → Unreadable file at rest n o d
-      → DueHeader file at rest o × First (rowsBehindHeader file at rest) n d
-  only-header a b (section0 {g} z first (here, f)) = absurd (lacking (rows0 file g) n d a f)
-  only-header a b (section8 z i (here, f)) = absurd (lacking (rows8 file at) n d b f)
+  only-header : lacks (rows0 file at) n ≡ true → lacks (rows8 file at) n ≡ true → CannotBeRead file at rest n o d
+      → DueHeader file at rest o × FirstRow (rowsBehindHeader file at rest) n d
+  only-header a b (hand0 {g} z first (here, f)) = absurd (lacking (rows0 file g) n d a f)
+  only-header a b (hand8 z i (here, f)) = absurd (lacking (rows8 file at) n d b f)
   only-header a b (behindHeader p q i (here, f)) = ((p, q, i, here), f)
 
   -- and back
-  as-0 : Due0 file at rest o → First (rows0 file o) n d → Unreadable file at rest n o d
-  as-0 (z, first) f = section0 z first (refl, f)
+  as-0 : Due0 file at rest o → FirstRow (rows0 file o) n d → CannotBeRead file at rest n o d
+  as-0 (z, first) f = hand0 z first (refl, f)
 
-  as-8 : Due8 file at rest o → First (rows8 file at) n d → Unreadable file at rest n o d
-  as-8 (z, i, here) f = section8 z i (here, f)
+  as-8 : Due8 file at rest o → FirstRow (rows8 file at) n d → CannotBeRead file at rest n o d
+  as-8 (z, i, here) f = hand8 z i (here, f)
 
-  as-header : DueHeader file at rest o → First (rowsBehindHeader file at rest) n d → Unreadable file at rest n o d
+  as-header : DueHeader file at rest o → FirstRow (rowsBehindHeader file at rest) n d → CannotBeRead file at rest n o d
   as-header (p, q, i, here) f = behindHeader p q i (here, f)
 
 pub exactly-2 : Exactly2
@@ -130,11 +130,11 @@ exactly-2 file at rest o d = (
   λ h. refused-exactly-when file at rest 2 o d .1 (back h),
 )
   where
-    go : Unreadable file at rest 2 o d
+    go : CannotBeRead file at rest 2 o d
         → (d ≡ 0) × ((Due8 file at rest o × EndCut file at)
         ⊎ (DueHeader file at rest o × (HeaderCut file at ⊎ (GoodHeader file at × PayloadCut file at))))
-    go (section0 {g} z first (here, f)) = absurd (lacking (rows0 file g) 2 d refl f)
-    go (section8 z i (here, f)) = let k = exact (rows8 file at) 2 d refl f in (k .1, inl ((z, i, here), k .0))
+    go (hand0 {g} z first (here, f)) = absurd (lacking (rows0 file g) 2 d refl f)
+    go (hand8 z i (here, f)) = let k = exact (rows8 file at) 2 d refl f in (k .1, inl ((z, i, here), k .0))
     go (behindHeader p q i (here, inl (h, _, f))) = (f, inr ((p, q, i, here), inl h))
     go (behindHeader p q i (here, inr (h, f))) =
         let k = exact (afterFirst (rowsBehindHeader file at rest)) 2 d refl f in
@@ -142,7 +142,7 @@ exactly-2 file at rest o d = (
 
     back : (d ≡ 0) × ((Due8 file at rest o × EndCut file at)
         ⊎ (DueHeader file at rest o × (HeaderCut file at ⊎ (GoodHeader file at × PayloadCut file at))))
-        → Unreadable file at rest 2 o d
+        → CannotBeRead file at rest 2 o d
     back (e, inl (due, h)) = as-8 file at rest 2 o d due (inl (h, refl, e))
     back (e, inr (due, inl h)) = as-header file at rest 2 o d due (inl (h, refl, e))
     back (e, inr (due, inr ((a, b, c), h))) = as-header file at rest 2 o d due (inr (a, inr (b, inr (c, inl (h, refl, e)))))
@@ -237,20 +237,20 @@ exactly-13 room r s d = (
 )
 
 -- a section 8 that closes fits
-fits-8 : (order : Order) (n : ℕ) → Closes order n → Not (NoGridYet order n) × Not (Not (CanCome order n))
+fits-8 : (order : Order) (n : ℕ) → ClosesMessage order n → Not (NoGridYet order n) × Not (Not (CanCome order n))
 fits-8 order n (read7, eight) = ((λ h. omega (arith, h .1)), λ h. h (rw read7 (inl eight)))
 
 pub exactly-14 : Exactly14
 exactly-14 room r s d = ((λ h. go (stopped-exactly-when room r s 14 d .0 h)), λ h. stopped-exactly-when room r s 14 d .1 (back h))
   where
-    go : First (rowsAfterRead room r s) 14 d
-        → (d ≡ 0) × (NoLine room r s ⊎ (Closes (r .order) (s .number) × LinesFull room r × Not (RowsFull room r)))
+    go : FirstRow (rowsAfterRead room r s) 14 d
+        → (d ≡ 0) × (NoLine room r s ⊎ (ClosesMessage (r .order) (s .number) × LinesFull room r × Not (RowsFull room r)))
     go (inl (h, _, e)) = (e, inl h)
     go (inr (_, f)) =
         let k = exact (afterFirst (rowsAfterRead room r s)) 14 d refl f .1 .1 in (k .1 .1, inr (k .1 .0 .0, k .1 .0 .1, k .0))
 
-    back : (d ≡ 0) × (NoLine room r s ⊎ (Closes (r .order) (s .number) × LinesFull room r × Not (RowsFull room r)))
-        → First (rowsAfterRead room r s) 14 d
+    back : (d ≡ 0) × (NoLine room r s ⊎ (ClosesMessage (r .order) (s .number) × LinesFull room r × Not (RowsFull room r)))
+        → FirstRow (rowsAfterRead room r s) 14 d
     back (e, inl h) = inl (h, refl, e)
     back (e, inr (shut, full, free)) =
         let k = fits-8 (r .order) (s .number) shut in

@@ -1,4 +1,4 @@
--- A property of what a walk tells, from every stand on: by its end, a refused section, and a passed one. Assumes nothing.
+-- A property of what a walk tells, from every stand on: by its end, a refused section, and a passed one.
 use Prim.Native.Nat.{ℕ, zero, suc, _+_, _-_, _<_}
 use native.Mathlib.Omega.{arith}
 use mathlib.Core.Path.{_≡_, refl, sym, ap, subst, _∙_}

@@ -1,4 +1,4 @@
--- The sections told are reads one after the other, so that they tile the messages that they close. Assumes nothing.
+-- The sections told are reads one after the other, so that they tile the messages that they close.
 use Prim.Native.Nat.{ℕ, zero, suc, _+_, _≤_}
 use native.Mathlib.Omega.{arith}
 use mathlib.Core.Path.{_≡_, refl, ap, subst, _∙_}
@@ -7,7 +7,7 @@ use mathlib.Core.List.{List, [], _∷_, _++_, append-assoc}
 use lib.Dec.{eqb}
 use lib.ListN.{length}
 use borrow.Author.Tests.{eqb-true, eqb-false, eq-eqb, ne-eqb}
-use Rattle.octets.specs.Choice.{pick}
+use Rattle.octets.specs.Words.{pick, Not}
 use Rattle.framing.specs.Framing.{readAt}
 use Rattle.framing.specs.declared.read.Section.{Section}
 use Rattle.framing.specs.declared.read.Cursor.{Cursor}
@@ -16,16 +16,15 @@ use Rattle.framing.proofs.OneRead.{Reads, opens, closes, heads, reads-as}
 use Rattle.index.specs.declared.line.Line.{Line}
 use Rattle.index.specs.declared.bounds.Room.{Room}
 use Rattle.index.specs.Walk.{Reached, atStart, Told, walked}
-use Rattle.walk_laws.specs.Rows.{Not}
 use Rattle.walk_laws.specs.ExactlyWhen.{total}
 use Rattle.walk_laws.specs.Laws.{
   Every,
   lengths,
   EndToEnd,
   ClosedMessagesAreTiled,
-  Closing,
+  ClosesOne,
   EachEndClosesAMessage,
-  ends,
+  endSections,
   MessagesAreEnds,
   numberAt,
   NoEndAtPlace0,
@@ -122,7 +121,7 @@ last-zero (s ∷ l) = go (last-zero l)
 pub each-end-closes-a-message : EachEndClosesAMessage
 each-end-closes-a-message room file before eighth after listed last = go (last-zero before)
   where
-    go : LastZero before → Closing (walked room file .sections) eighth after
+    go : LastZero before → ClosesOne (walked room file .sections) eighth after
     go (without all) =
         let k = to-end file before eighth after 0 0 (subst (Run file 0 0) listed (told-run room file)) all last .2 in absurd (omega arith)
     go (since b zeroth others e z all) =
@@ -142,13 +141,13 @@ each-end-closes-a-message room file before eighth after listed last = go (last-z
 
 pub messages-are-ends : MessagesAreEnds
 messages-are-ends room file =
-    of-walk room file (λ t. t .messages ≡ ends (t .sections)) (λ how. refl)
-    (each-stand room file (λ at rest r t. t .messages ≡ ends (t .sections)) (λ at rest r how same. refl)
+    of-walk room file (λ t. t .messages ≡ endSections (t .sections)) (λ how. refl)
+    (each-stand room file (λ at rest r t. t .messages ≡ endSections (t .sections)) (λ at rest r how same. refl)
     (λ at rest r s c lines why e f. refl)
     (λ at rest r s c lines closed reached later e f so. go r s lines closed reached (passing room r s f .way) later so) 0 0 atStart)
   where
     go : (r : Reached) (s : Section) (lines : List Line) (closed : ℕ) (reached : Reached) → Way r s lines closed reached → (later : Told)
-        → later .messages ≡ ends (later .sections) → closed + later .messages ≡ pick (eqb (s .number) 8) 1 0 + ends (later .sections)
+        → later .messages ≡ endSections (later .sections) → closed + later .messages ≡ pick (eqb (s .number) 8) 1 0 + endSections (later .sections)
     go r s _ _ _ (within below ajar) later so = rw (ne-eqb (s .number) 8 (λ z. omega arith), so)
     go r s _ _ _ (goneFurther below ajar order end) later so = rw (ne-eqb (s .number) 8 (λ z. omega arith), so)
     go r s _ _ _ (shut eight clean order end) later so = rw (eq-eqb (s .number) 8 eight, so)

@@ -1,4 +1,4 @@
--- A read is refused, good or over exactly when the rows of the section in hand say so. Assumes nothing.
+-- A read is refused, good or over exactly when the rows of the section in hand say so.
 use Prim.Native.Nat.{ℕ, _+_, _≤_, _<_}
 use native.Mathlib.Omega.{arith}
 use mathlib.Core.Path.{_≡_, refl, sym, subst, _∙_}
@@ -8,12 +8,13 @@ use mathlib.Core.Logic.{_⊎_, inl, inr}
 use lib.Dec.{ltb, leb, eqb}
 use lib.ListN.{length}
 use borrow.Author.Tests.{ltb-true, ltb-false, leb-true, leb-false, eqb-true, eqb-false, eq-eqb, ne-eqb}
+use Rattle.octets.specs.Words.{Not}
 use Rattle.sections.specs.Kinds.{leastPayloadOf, leastIn, kindOf, kinds}
 use Rattle.sections.specs.declared.kinds.LeastPayload.{LeastPayload}
 use Rattle.sections.specs.declared.kinds.LeastPayload.the-variants.{Octets, NoHeader}
 use Rattle.sections.specs.declared.kinds.MaybeKind.{MaybeKind}
 use Rattle.framing.specs.Search.{says, IsNextStart, nextStart}
-use Rattle.framing.specs.Framing.{refused, indicatorAt, endAt, isCut, payloadAt, headerAt, messageAt, readAt}
+use Rattle.framing.specs.Framing.{refusedAt, indicatorAt, endAt, isCut, payloadAt, headerAt, messageAt, readAt}
 use Rattle.framing.specs.declared.search.Found.{Found}
 use Rattle.framing.specs.declared.search.Found.the-variants.{At, Nowhere}
 use Rattle.framing.specs.declared.read.Section.{Section as Listed}
@@ -24,7 +25,7 @@ use Rattle.framing.specs.Read.{Section, Over}
 use Rattle.framing.proofs.Tests.{by-test, and-both, and-of, or-neither}
 use Rattle.framing.proofs.NextStart.{next-start-first, next-start-is}
 use Rattle.index.specs.Numbers.{faultNumber, faultDetail}
-use Rattle.walk_laws.specs.Rows.{Not, Rows, First}
+use Rattle.walk_laws.specs.Rows.{Rows, FirstRow}
 use Rattle.walk_laws.specs.ExactlyWhen.{
   left,
   edition,
@@ -32,19 +33,19 @@ use Rattle.walk_laws.specs.ExactlyWhen.{
   rows0,
   NotSevens,
   len,
-  number,
+  numberThere,
   payload,
   PayloadCut,
   Under,
   rowsBehindHeader,
   InHand,
-  section0,
-  section8,
+  hand0,
+  hand8,
   behindHeader,
   NoneInHand,
   noStart,
   noOctet,
-  Unreadable,
+  CannotBeRead,
   WellRead,
   ReadRefused,
   ReadWell,
@@ -57,43 +58,43 @@ use Rattle.walk_laws.proofs.Rows.{first-same, first-holds}
 -- what holds of any offset and rows holds of the section in hand
 pub in-hand : {file : List ℕ} {at rest : ℕ} {So : ℕ → Rows → Type 0} {A : Type 0}
     → InHand file at rest So → ((o : ℕ) (rows : Rows) → So o rows → A) → A
-in-hand {at = at} (section0 {g} p q so) then = then g _ so
-in-hand {at = at} (section8 p q so) then = then at _ so
+in-hand {at = at} (hand0 {g} p q so) then = then g _ so
+in-hand {at = at} (hand8 p q so) then = then at _ so
 in-hand {at = at} (behindHeader p q i so) then = then at _ so
 
 module _ (file : List ℕ) (at rest : ℕ) where
   -- there is one section in hand
   module _ (P Q : ℕ → Rows → Type 0) where
     pub both : InHand file at rest P → InHand file at rest Q → InHand file at rest (λ o rows. P o rows × Q o rows)
-    both (section0 {g} z first p) (section0 {g = g′} z′ first′ q) =
+    both (hand0 {g} z first p) (hand0 {g = g′} z′ first′ q) =
         let e : At g′ ≡ At g = next-start-is file at (At g′) first′ ∙ sym (next-start-is file at (At g) first) in
         let same : g′ ≡ g = cc in
-        section0 z first (p, subst (λ (x : ℕ). Q x (rows0 file x)) same q)
-    both (section0 z first p) (section8 z′ i q) = absurd (omega arith)
-    both (section0 z first p) (behindHeader a b i q) = absurd (a z)
-    both (section8 z i p) (section0 z′ first q) = absurd (omega arith)
-    both (section8 z i p) (section8 z′ i′ q) = section8 z i (p, q)
-    both (section8 z i p) (behindHeader a b i′ q) = absurd (b z)
-    both (behindHeader a b i p) (section0 z first q) = absurd (a z)
-    both (behindHeader a b i p) (section8 z i′ q) = absurd (b z)
+        hand0 z first (p, subst (λ (x : ℕ). Q x (rows0 file x)) same q)
+    both (hand0 z first p) (hand8 z′ i q) = absurd (omega arith)
+    both (hand0 z first p) (behindHeader a b i q) = absurd (a z)
+    both (hand8 z i p) (hand0 z′ first q) = absurd (omega arith)
+    both (hand8 z i p) (hand8 z′ i′ q) = hand8 z i (p, q)
+    both (hand8 z i p) (behindHeader a b i′ q) = absurd (b z)
+    both (behindHeader a b i p) (hand0 z first q) = absurd (a z)
+    both (behindHeader a b i p) (hand8 z i′ q) = absurd (b z)
     both (behindHeader a b i p) (behindHeader a′ b′ i′ q) = behindHeader a b i (p, q)
 
   -- or none
   pub none-there : (So : ℕ → Rows → Type 0) → InHand file at rest So → NoneInHand file at rest → ⊥
-  none-there So (section0 {g} z first p) (noStart z′ none) = none g (first .0) (first .1)
-  none-there So (section0 z first p) (noOctet a i) = a z
-  none-there So (section8 z i p) (noStart z′ none) = omega arith
-  none-there So (section8 z i p) (noOctet a i′) = omega arith
+  none-there So (hand0 {g} z first p) (noStart z′ none) = none g (first .0) (first .1)
+  none-there So (hand0 z first p) (noOctet a i) = a z
+  none-there So (hand8 z i p) (noStart z′ none) = omega arith
+  none-there So (hand8 z i p) (noOctet a i′) = omega arith
   none-there So (behindHeader a b i p) (noStart z none) = a z
   none-there So (behindHeader a b i p) (noOctet a′ i′) = omega arith
 
-  pub same-refusal : (n o d n′ o′ d′ : ℕ) → Unreadable file at rest n o d → Unreadable file at rest n′ o′ d′
+  pub same-refusal : (n o d n′ o′ d′ : ℕ) → CannotBeRead file at rest n o d → CannotBeRead file at rest n′ o′ d′
       → (n ≡ n′) × (o ≡ o′) × (d ≡ d′)
   same-refusal n o d n′ o′ d′ p q =
       in-hand (both _ _ p q)
       (λ here rows so. let s = first-same rows n d n′ d′ (so .0 .1) (so .1 .1) in (s .0, so .0 .0 ∙ sym (so .1 .0), s .1))
 
-  pub never-well : (n o d o′ : ℕ) → Unreadable file at rest n o d → WellRead file at rest o′ → ⊥
+  pub never-well : (n o d o′ : ℕ) → CannotBeRead file at rest n o d → WellRead file at rest o′ → ⊥
   never-well n o d o′ p q = in-hand (both _ _ p q) (λ here rows so. first-holds rows n d (so .0 .1) (so .1 .1))
 
   pub same-offset : (o o′ : ℕ) → WellRead file at rest o → WellRead file at rest o′ → o ≡ o′
@@ -156,8 +157,8 @@ not-sevens file at e h =
 
 -- all that a read can be
 pub data Tells (file : List ℕ) (at rest : ℕ) : Read → Type 0 where
-  refuses : {fault : Fault} {o : ℕ} → Unreadable file at rest (faultNumber fault) o (faultDetail fault)
-      → Tells file at rest (refused fault o)
+  refuses : {fault : Fault} {o : ℕ} → CannotBeRead file at rest (faultNumber fault) o (faultDetail fault)
+      → Tells file at rest (refusedAt fault o)
   reads : {s : Listed} {next : Cursor} → WellRead file at rest (s .offset .0) → Tells file at rest (Section s next)
   over : NoneInHand file at rest → Tells file at rest Over
 
@@ -198,11 +199,11 @@ module _ (file : List ℕ) (at rest : ℕ) where
   tells-indicator : (g : ℕ) → rest ≡ 0 → IsNextStart file at (At g) → T (indicatorAt file g)
   unfolding indicatorAt faultNumber faultDetail
   tells-indicator g z first =
-      by-test T (not (eqb (edition file g) 2)) (λ e. refuses (section0 z first (refl, inl (not-true _ _ e, refl, refl)))) λ e.
+      by-test T (not (eqb (edition file g) 2)) (λ e. refuses (hand0 z first (refl, inl (not-true _ _ e, refl, refl)))) λ e.
       let same = not-false _ _ e in
       by-test T (ltb (total file g) 16)
-      (λ e. refuses (section0 z first (refl, inr ((λ other. other same), inl (ltb-true _ _ e, refl, refl))))) λ e.
-      reads (section0 z first (refl, ((λ other. other same), ((λ under. let k = ltb-false (total file g) 16 e in omega arith), tt))))
+      (λ e. refuses (hand0 z first (refl, inr ((λ other. other same), inl (ltb-true _ _ e, refl, refl))))) λ e.
+      reads (hand0 z first (refl, ((λ other. other same), ((λ under. let k = ltb-false (total file g) 16 e in omega arith), tt))))
     where
       not-true : (a b : ℕ) → not (eqb a b) ≡ true → Not (a ≡ b)
       not-true a b e same = let y : _≡_ {A = ℕ} 0 1 = cc (eq-eqb a b same) in omega arith
@@ -226,34 +227,34 @@ module _ (file : List ℕ) (at rest : ℕ) where
         by-test T (ltb (left file at) 4)
         (λ e.
         let k = ltb-true (left file at) 4 e in
-        refuses (section8 last inside (refl, inl ((omega arith, omega arith), refl, refl)))) λ e.
+        refuses (hand8 last inside (refl, inl ((omega arith, omega arith), refl, refl)))) λ e.
         let no2 : Not ((1 ≤ left file at) × (left file at ≤ 3)) = λ h. let k = ltb-false (left file at) 4 e in omega (arith, h .1) in
         by-test T (says file at 55 55 55 55)
-        (λ e. reads (section8 last inside (refl, (no2, (sevens file at e, tt))))) λ e.
-        refuses (section8 last inside (refl, inr (no2, inl (not-sevens file at e, refl, refl))))
+        (λ e. reads (hand8 last inside (refl, (no2, (sevens file at e, tt))))) λ e.
+        refuses (hand8 last inside (refl, inr (no2, inl (not-sevens file at e, refl, refl))))
 
     module _ (within : Not (rest ≡ 0)) (not-last : Not (rest ≡ 4)) where
-      refuses-here : (fault : Fault) → First (rowsBehindHeader file at rest) (faultNumber fault) (faultDetail fault) → T (refused fault at)
+      refuses-here : (fault : Fault) → FirstRow (rowsBehindHeader file at rest) (faultNumber fault) (faultDetail fault) → T (refusedAt fault at)
       refuses-here fault first = refuses (behindHeader within not-last inside (refl, first))
 
-      tells-payload : (least : LeastPayload) → leastPayloadOf (number file at) ≡ least → Headed (number file at) least
+      tells-payload : (least : LeastPayload) → leastPayloadOf (numberThere file at) ≡ least → Headed (numberThere file at) least
           → 5 ≤ left file at → 5 ≤ len file at
-          → T (payloadAt least at (number file at) (len file at) (left file at) rest)
+          → T (payloadAt least at (numberThere file at) (len file at) (left file at) rest)
       unfolding payloadAt faultNumber faultDetail
       tells-payload NoHeader kind (bare other) l5 n5 =
           refuses-here _ (inr ((λ h. omega (arith, h .1)), inr ((λ h. omega arith), inl (other, refl, refl))))
       tells-payload (Octets least) kind (headed low high) l5 n5 =
           let no2 : Not ((1 ≤ left file at) × (left file at ≤ 4)) = λ h. omega (arith, h .1) in
           let no6 : Not (len file at < 5) = λ h. omega arith in
-          let no7 : Not (Not ((1 ≤ number file at) × (number file at ≤ 7))) = λ h. h (low, high) in
-          by-test T (isCut (number file at) (len file at) (left file at))
+          let no7 : Not (Not ((1 ≤ numberThere file at) × (numberThere file at ≤ 7))) = λ h. h (low, high) in
+          by-test T (isCut (numberThere file at) (len file at) (left file at))
           (λ e.
           let c = cut-is _ _ _ e l5 n5 high in
           refuses-here _ (inr (no2, inr (no6, inr (no7, inl ((low, c .0, c .1), refl, refl)))))) λ e.
           let no2′ : Not (PayloadCut file at) = λ h. whole-is _ _ _ e (h .1, h .2) in
           by-test T (ltb (payload file at) least)
           (λ e. refuses-here _ (inr (no2, inr (no6, inr (no7, inr (no2′, inl (rw kind (ltb-true _ _ e), refl, refl))))))) λ e.
-          let no8 : Not (Under (leastPayloadOf (number file at)) (payload file at)) =
+          let no8 : Not (Under (leastPayloadOf (numberThere file at)) (payload file at)) =
           rw kind (λ h. let k = ltb-false (payload file at) least e in omega arith) in
           by-test T (ltb rest (len file at))
           (λ e. refuses-here _ (inr (no2, inr (no6, inr (no7, inr (no2′, inr (no8, inl (ltb-true _ _ e, refl, refl)))))))) λ e.
@@ -268,7 +269,7 @@ module _ (file : List ℕ) (at rest : ℕ) where
           let l5 = ltb-false (left file at) 5 e in
           by-test T (ltb (len file at) 5)
           (λ e. refuses-here _ (inr ((λ h. omega (arith, h .1)), inl (ltb-true _ _ e, refl, refl)))) λ e.
-          tells-payload (leastPayloadOf (number file at)) refl (by-kind (number file at)) l5 (ltb-false _ _ e)
+          tells-payload (leastPayloadOf (numberThere file at)) refl (by-kind (numberThere file at)) l5 (ltb-false _ _ e)
 
   pub tells : T (readAt file at rest)
   unfolding readAt
@@ -283,13 +284,13 @@ module _ (file : List ℕ) (at rest : ℕ) where
 pub refused-exactly-when : RefusedExactlyWhen
 refused-exactly-when file at rest n o d = (there, back (readAt file at rest) refl (tells file at rest))
   where
-    there : ReadRefused file at rest n o d → Unreadable file at rest n o d
+    there : ReadRefused file at rest n o d → CannotBeRead file at rest n o d
     there h = go (subst (Tells file at rest) (h .refuses) (tells file at rest))
       where
-        go : Tells file at rest (refused (h .fault) o) → Unreadable file at rest n o d
+        go : Tells file at rest (refusedAt (h .fault) o) → CannotBeRead file at rest n o d
         go (refuses u) = rw (h .numbered, h .detailed) u
 
-    back : (r : Read) → readAt file at rest ≡ r → Tells file at rest r → Unreadable file at rest n o d → ReadRefused file at rest n o d
+    back : (r : Read) → readAt file at rest ≡ r → Tells file at rest r → CannotBeRead file at rest n o d → ReadRefused file at rest n o d
     back _ e (refuses {fault} {o = o′} u) v =
         let same = same-refusal file at rest n o d (faultNumber fault) o′ (faultDetail fault) v u in
         record { fault = fault; refuses = rw (same .1) e; numbered = same .0; detailed = same .2 }

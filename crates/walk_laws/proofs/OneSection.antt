@@ -1,4 +1,4 @@
--- A well-read section stops the walk or is passed exactly when its rows say so. Assumes nothing.
+-- A well-read section stops the walk or is passed exactly when its rows say so.
 use Prim.Native.Nat.{ℕ}
 use native.Mathlib.Omega.{arith}
 use mathlib.Core.Path.{_≡_, refl, subst}
@@ -7,7 +7,7 @@ use mathlib.Core.List.{List, []}
 use mathlib.Core.Logic.{inl, inr, ⊎-elim}
 use lib.Dec.{leb, eqb}
 use borrow.Author.Tests.{leb-true, leb-false, eqb-true, eqb-false}
-use Rattle.octets.specs.Choice.{pick}
+use Rattle.octets.specs.Words.{pick, Not}
 use Rattle.framing.specs.declared.read.Section.{Section}
 use Rattle.framing.proofs.Tests.{by-test, never-both}
 use Rattle.order.specs.Order.{judged, completes}
@@ -32,16 +32,16 @@ use Rattle.index.specs.Numbers.{refusalNumber, refusalDetail}
 use Rattle.index.specs.declared.refusal.Refusal.{Refusal}
 use Rattle.index.specs.declared.bounds.Room.{Room}
 use Rattle.index.specs.Walk.{Reached, Judgement, stops, passes, fitted, closing, byOrder, goneOn, judgement}
-use Rattle.walk_laws.specs.Rows.{Not, First, NoRow}
+use Rattle.walk_laws.specs.Rows.{FirstRow, NoRow}
 use Rattle.walk_laws.specs.ExactlyWhen.{
   CanCome,
   NoGridYet,
   GoesOn,
-  Closes,
+  ClosesMessage,
   LinesFull,
   rowsAfterRead,
   Stopped,
-  Passed,
+  PassesOn,
   StoppedExactlyWhen,
   PassedExactlyWhen,
 }
@@ -49,8 +49,8 @@ use Rattle.walk_laws.proofs.Rows.{first-same, first-holds}
 
 -- what the order's answer says of what may come next
 data Stands (order : Order) (n : ℕ) : Judged → Type 0 where
-  fits : {next : Order} → CanCome order n → Not (NoGridYet order n) → Not (Closes order n) → Stands order n (says.Fits next)
-  closes : CanCome order n → Not (NoGridYet order n) → Closes order n → Stands order n says.Closes
+  fits : {next : Order} → CanCome order n → Not (NoGridYet order n) → Not (ClosesMessage order n) → Stands order n (says.Fits next)
+  closes : CanCome order n → Not (NoGridYet order n) → ClosesMessage order n → Stands order n says.Closes
   misplaced : Not (CanCome order n) → Not (NoGridYet order n) → Stands order n says.Misplaced
   noGrid : NoGridYet order n → Stands order n says.NoGrid
 
@@ -75,7 +75,7 @@ stands AfterProduct n = stands-only AfterProduct AfterRepresentation n 5 (λ e. 
 stands AfterRepresentation n = stands-only AfterRepresentation AfterBitMap n 6 (λ e. e) (λ e. e) (apart (λ e. cc)) (apart (λ e. cc))
 stands AfterBitMap n = stands-only AfterBitMap AfterData n 7 (λ e. e) (λ e. e) (apart (λ e. cc)) (apart (λ e. cc))
 stands AfterIdentification n =
-    let ajar : Not (Closes AfterIdentification n) = λ h. apart (λ e. cc) (h .0) in
+    let ajar : Not (ClosesMessage AfterIdentification n) = λ h. apart (λ e. cc) (h .0) in
     by-test (Stands AfterIdentification n) (eqb n 2)
     (λ e. let z = eqb-true n 2 e in fits (inl z) (λ h. omega (arith, h .1)) ajar) λ e2.
     by-test (Stands AfterIdentification n) (eqb n 3)
@@ -85,14 +85,14 @@ stands AfterIdentification n =
 stands AfterData n =
     let grid : Not (NoGridYet AfterData n) = λ h. apart (λ e. cc) (h .0) in
     by-test (Stands AfterData n) (eqb n 8) (λ e. closes (inl (eqb-true n 8 e)) grid (refl, eqb-true n 8 e)) λ e8.
-    let ajar : Not (Closes AfterData n) = λ h. eqb-false n 8 e8 (h .1) in
+    let ajar : Not (ClosesMessage AfterData n) = λ h. eqb-false n 8 e8 (h .1) in
     by-test (Stands AfterData n) (eqb n 2) (λ e. fits (inr (inl (eqb-true n 2 e))) grid ajar) λ e2.
     by-test (Stands AfterData n) (eqb n 3) (λ e. fits (inr (inr (inl (eqb-true n 3 e)))) grid ajar) λ e3.
     by-test (Stands AfterData n) (eqb n 4) (λ e. fits (inr (inr (inr (eqb-true n 4 e)))) grid ajar) λ e4.
     misplaced (⊎-elim (eqb-false n 8 e8) (⊎-elim (eqb-false n 2 e2) (⊎-elim (eqb-false n 3 e3) (eqb-false n 4 e4)))) grid
 stands SubmessageStart n =
     let grid : Not (NoGridYet SubmessageStart n) = λ h. apart (λ e. cc) (h .0) in
-    let ajar : Not (Closes SubmessageStart n) = λ h. apart (λ e. cc) (h .0) in
+    let ajar : Not (ClosesMessage SubmessageStart n) = λ h. apart (λ e. cc) (h .0) in
     by-test (Stands SubmessageStart n) (eqb n 2) (λ e. fits (inl (eqb-true n 2 e)) grid ajar) λ e2.
     by-test (Stands SubmessageStart n) (eqb n 3) (λ e. fits (inr (inl (eqb-true n 3 e))) grid ajar) λ e3.
     by-test (Stands SubmessageStart n) (eqb n 4) (λ e. fits (inr (inr (eqb-true n 4 e))) grid ajar) λ e4.
@@ -100,7 +100,7 @@ stands SubmessageStart n =
 
 -- all that a judgement can be
 pub data Judges (room : Room) (r : Reached) (s : Section) : Judgement → Type 0 where
-  halts : {lines : List Line} {why : Refusal} → First (rowsAfterRead room r s) (refusalNumber why) (refusalDetail why)
+  halts : {lines : List Line} {why : Refusal} → FirstRow (rowsAfterRead room r s) (refusalNumber why) (refusalDetail why)
       → Judges room r s (stops lines why)
   goes : {lines : List Line} {closed : ℕ} {reached : Reached} → NoRow (rowsAfterRead room r s)
       → Judges room r s (passes lines closed reached)
@@ -111,7 +111,7 @@ module _ (room : Room) (r : Reached) (s : Section) where
 
   -- where no line of a submessage that goes on is due, or there is room for it
   module _ (no14 : Not (GoesOn (r .order) (s .number) × LinesFull room r)) (r′ : Reached) (same : r′ .sections ≡ r .sections)
-      (due : Closes (r .order) (s .number) → r′ .lines ≡ r .lines) where
+      (due : ClosesMessage (r .order) (s .number) → r′ .lines ≡ r .lines) where
     judges-order : (j : Judged) (lines : List Line) → Stands (r .order) (s .number) j → J (byOrder j room r′ s lines)
     unfolding byOrder fitted closing refusalNumber refusalDetail
     judges-order (says.Fits next) lines (fits can grid ajar) =
@@ -156,13 +156,13 @@ module _ (room : Room) (r : Reached) (s : Section) where
 pub stopped-exactly-when : StoppedExactlyWhen
 stopped-exactly-when room r s n d = (there, back (judgement room r s) refl (judges room r s))
   where
-    there : Stopped room r s n d → First (rowsAfterRead room r s) n d
+    there : Stopped room r s n d → FirstRow (rowsAfterRead room r s) n d
     there h = go (subst (Judges room r s) (h .halts) (judges room r s))
       where
-        go : Judges room r s (stops (h .lines) (h .why)) → First (rowsAfterRead room r s) n d
+        go : Judges room r s (stops (h .lines) (h .why)) → FirstRow (rowsAfterRead room r s) n d
         go (halts first) = rw (h .numbered, h .detailed) first
 
-    back : (j : Judgement) → judgement room r s ≡ j → Judges room r s j → First (rowsAfterRead room r s) n d → Stopped room r s n d
+    back : (j : Judgement) → judgement room r s ≡ j → Judges room r s j → FirstRow (rowsAfterRead room r s) n d → Stopped room r s n d
     back _ e (halts {lines} {why} first) v =
         let same = first-same (rowsAfterRead room r s) n d (refusalNumber why) (refusalDetail why) v first in
         record { lines = lines; why = why; halts = e; numbered = same .0; detailed = same .1 }
@@ -171,13 +171,13 @@ stopped-exactly-when room r s n d = (there, back (judgement room r s) refl (judg
 pub passed-exactly-when : PassedExactlyWhen
 passed-exactly-when room r s = (there, back (judgement room r s) refl (judges room r s))
   where
-    there : Passed room r s → NoRow (rowsAfterRead room r s)
+    there : PassesOn room r s → NoRow (rowsAfterRead room r s)
     there h = go (subst (Judges room r s) (h .goes) (judges room r s))
       where
         go : Judges room r s (passes (h .lines) (h .closed) (h .reached)) → NoRow (rowsAfterRead room r s)
         go (goes none) = none
 
-    back : (j : Judgement) → judgement room r s ≡ j → Judges room r s j → NoRow (rowsAfterRead room r s) → Passed room r s
+    back : (j : Judgement) → judgement room r s ≡ j → Judges room r s j → NoRow (rowsAfterRead room r s) → PassesOn room r s
     back _ e (halts {why = why} first) v =
         absurd (first-holds (rowsAfterRead room r s) (refusalNumber why) (refusalDetail why) first v)
     back _ e (goes {lines} {closed} {reached} none) v = record { lines = lines; closed = closed; reached = reached; goes = e }

@@ -1,4 +1,4 @@
--- What is so of a section that is passed. Assumes nothing.
+-- What is so of a section that is passed.
 use Prim.Native.Nat.{ℕ, _+_, _≤_, _<_}
 use native.Mathlib.Omega.{arith}
 use mathlib.Core.Path.{_≡_, refl, subst}

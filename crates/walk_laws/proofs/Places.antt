@@ -1,4 +1,4 @@
--- The place of a refusal is a count of sections told. Assumes nothing.
+-- The place of a refusal is a count of sections told.
 use Prim.Native.Nat.{ℕ, _+_, _≤_}
 use native.Mathlib.Omega.{arith}
 use native.Mathlib.Nat.{add-zero}
@@ -7,18 +7,18 @@ use mathlib.Core.List.{List, [], _∷_, _++_, append-assoc, append-nil}
 use mathlib.Core.Logic.{inl, inr}
 use lib.ListN.{length, getD, length-append}
 use lib.Seq.{getD-append-add}
-use Rattle.framing.specs.Framing.{readAt, refused}
+use Rattle.octets.specs.Words.{Not}
+use Rattle.framing.specs.Framing.{readAt, refusedAt}
 use Rattle.framing.specs.declared.read.Section.{Section}
 use Rattle.framing.specs.Read.{Read}
 use Rattle.framing.specs.Read as read
 use Rattle.index.specs.declared.bounds.Room.{Room}
 use Rattle.index.specs.Walk.{Reached, Judgement, Told, followed, walked}
-use Rattle.walk_laws.specs.Rows.{Not}
 use Rattle.walk_laws.specs.ExactlyWhen.{
   NotTooLong,
   Comes,
   started,
-  further,
+  goesFurther,
   Given,
   tooLong,
   unread,
@@ -52,7 +52,7 @@ module _ (room : Room) (file : List ℕ) (short : NotTooLong file) where
         count = refl;
         last = λ some. absurd (omega arith);
       }
-  before (further {at} {rest} {r = r} {reached = reached} {s = s} {cursor = cursor} c e f) =
+  before (goesFurther {at} {rest} {r = r} {reached = reached} {s = s} {cursor = cursor} c e f) =
       let b = before c in
       let p = passing room r s f in
       let one = p .one in
@@ -90,7 +90,7 @@ place-of : (room : Room) (file : List ℕ) (n p o d : ℕ) → Given room file n
     → p ≡ length (walked room file .sections)
 place-of room file _ _ _ _ (tooLong long) one ten = absurd (one refl)
 place-of room file n _ o d (unread {at} {rest} short c u) one ten =
-    let k = refused-exactly-when file at rest n o d .1 u in all-counted room file short c (refused (k .fault) o) (k .refuses) refl
+    let k = refused-exactly-when file at rest n o d .1 u in all-counted room file short c (refusedAt (k .fault) o) (k .refuses) refl
 place-of room file _ _ _ _ (inputOver short c none other) one ten = absurd (ten refl)
 place-of room file n _ _ d (misjudged {r = r} {s} {cursor} short c e first) one ten =
     let k = stopped-exactly-when room r s n d .1 first in

@@ -1,4 +1,4 @@
--- A walk is refused or ends clean exactly when it comes to a read at which the rows, or the input's end, say so. Assumes nothing.
+-- A walk is refused or ends clean exactly when it comes to a read at which the rows, or the input's end, say so.
 use Prim.Native.Nat.{ℕ, zero, suc, _-_, _≤_, _<_}
 use native.Mathlib.Omega.{arith}
 use mathlib.Core.Path.{_≡_, refl, sym, ap, subst, _∙_}
@@ -7,8 +7,8 @@ use mathlib.Core.List.{List}
 use lib.Dec.{ltb}
 use lib.ListN.{length}
 use borrow.Author.Tests.{ltb-true, ltb-false, lt-ltb, le-ltb}
-use Rattle.octets.specs.Choice.{pick}
-use Rattle.framing.specs.Framing.{readAt, refused}
+use Rattle.octets.specs.Words.{pick, Not}
+use Rattle.framing.specs.Framing.{readAt, refusedAt}
 use Rattle.framing.specs.Listing as list
 use Rattle.framing.specs.declared.read.Section.{Section}
 use Rattle.framing.specs.declared.read.Cursor.{Cursor}
@@ -38,12 +38,11 @@ use Rattle.index.specs.declared.refusal.Outcome.{Outcome}
 use Rattle.index.specs.declared.refusal.Outcome.the-variants as outcome
 use Rattle.index.specs.declared.bounds.Room.{Room}
 use Rattle.index.specs.Walk.{Reached, atStart, Judgement, judgement, Told, ends, concluded, followed, walkedFrom, walked}
-use Rattle.walk_laws.specs.Rows.{Not}
 use Rattle.walk_laws.specs.ExactlyWhen.{
   NoneInHand,
   Comes,
   started,
-  further,
+  goesFurther,
   Given,
   tooLong,
   unread,
@@ -65,7 +64,7 @@ on room file at rest r = walkedFrom room r (listingOn file at rest .sections) (l
 abbrev pub after : Room → List ℕ → Reached → Read → Told
 after room file r (read.Section s next) = followed r s (judgement room r s) (λ reached. on room file (next .at .0) (next .rest) reached)
 after room file r read.Over = ends (concluded r list.over)
-after room file r (read.Refused fault offset) = ends (concluded r (list.refused fault offset))
+after room file r (read.Refused fault offset) = ends (concluded r (list.unreadable fault offset))
 
 pub on-next : (room : Room) (file : List ℕ) (at rest : ℕ) (r : Reached) → on room file at rest r ≡ after room file r (readAt file at rest)
 unfolding on walkedFrom
@@ -73,7 +72,7 @@ on-next room file at rest r =
     ap (λ (l : list.Listing). walkedFrom room r (l .sections) (l .ending)) (listing-next file at rest) ∙ go (readAt file at rest)
   where
     go : (x : Read)
-        → walkedFrom room r (list.listed x (listingOn file) .sections) (list.listed x (listingOn file) .ending) ≡ after room file r x
+        → walkedFrom room r (list.listedBy x (listingOn file) .sections) (list.listedBy x (listingOn file) .ending) ≡ after room file r x
     go (read.Section s next) = refl
     go read.Over = refl
     go (read.Refused fault offset) = refl
@@ -89,7 +88,7 @@ walked-on room file short =
 pub comes-on : (room : Room) (file : List ℕ) {at rest : ℕ} {r : Reached} → length file ≤ 1099511627776 → Comes room file at rest r
     → walked room file .outcome ≡ on room file at rest r .outcome
 comes-on room file short started = ap (λ (t : Told). t .outcome) (walked-on room file short)
-comes-on room file short (further {at} {rest} {r = r} {s = s} {cursor = cursor} c well passed) =
+comes-on room file short (goesFurther {at} {rest} {r = r} {s = s} {cursor = cursor} c well passed) =
     comes-on room file short c
     ∙ ap (λ (t : Told). t .outcome) (on-next room file at rest r)
     ∙ ap (λ (x : Read). after room file r x .outcome) well
@@ -149,7 +148,7 @@ module _ (room : Room) (file : List ℕ) (short : length file ≤ 1099511627776)
           → (j : Judgement) → judgement room r s ≡ j → Judges room r s j
           → Ends (followed r s j (λ reached. on room file (cursor .at .0) (cursor .rest) reached) .outcome)
       judged s cursor e later _ f (halts row) = misjudged short c e row
-      judged s cursor e later _ f (passes-on {reached = reached} none) = later reached (further c e f)
+      judged s cursor e later _ f (passes-on {reached = reached} none) = later reached (goesFurther c e f)
 
       go : (x : Read) → readAt file at rest ≡ x → Tells file at rest x
           → ((at rest : ℕ) (r : Reached) → length file - at < fuel → Comes room file at rest r → Ends (on room file at rest r .outcome))
@@ -204,7 +203,7 @@ walk-refused-exactly-when room file n p o d some = (there (ltb 1099511627776 (le
     back _ _ _ _ (tooLong long) = rw (lt-ltb 1099511627776 (length file) long)
     back n _ o d (unread {at} {rest} {r = r} short c u) =
         let k = refused-exactly-when file at rest n o d .1 u in
-        ap endOf (at-read room file at rest r (refused (k .fault) o) short c (k .refuses))
+        ap endOf (at-read room file at rest r (refusedAt (k .fault) o) short c (k .refuses))
         ∙ same-numbers n _ (r .sections) o d _ (k .numbered) (k .detailed)
     back _ _ _ _ (inputOver {at} {rest} {r} short c none other) =
         ap endOf (at-read room file at rest r read.Over short c (over-exactly-when file at rest .1 none))

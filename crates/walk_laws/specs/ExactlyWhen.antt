@@ -1,16 +1,18 @@
--- Refusals 1 to 14 by their rows (01, "Refusal numbers"): each is given exactly when its row holds and no row before it does, in 01's
--- order. The statements are proved in proofs/OneRead, OneSection and WholeWalk.antt, under their names in small letters. Assumes nothing.
+-- Refusals 1 to 14 by their rows (01, "Refusal numbers"): each is given exactly when its row holds
+-- and no row before it does, in 01's order. The statements are proved in proofs/OneRead, OneSection
+-- and WholeWalk.antt, under their names in small letters.
 use Prim.Native.Nat.{ℕ, _+_, _-_, _^_, _≤_, _<_}
 use mathlib.Core.Path.{_≡_}
 use mathlib.Core.List.{List}
 use mathlib.Core.Logic.{_⊎_}
 use lib.ListN.{length, getD}
+use Rattle.octets.specs.Words.{Not, Iff}
 use Rattle.octets.specs.BigEndian.{beAt}
 use Rattle.sections.specs.Kinds.{leastPayloadOf}
 use Rattle.sections.specs.declared.kinds.LeastPayload.{LeastPayload}
 use Rattle.sections.specs.declared.kinds.LeastPayload.the-variants.{Octets, NoHeader}
 use Rattle.framing.specs.Search.{IsNextStart}
-use Rattle.framing.specs.Framing.{readAt, refused}
+use Rattle.framing.specs.Framing.{readAt, refusedAt}
 use Rattle.framing.specs.declared.search.Found.the-variants.{At, Nowhere}
 use Rattle.framing.specs.declared.read.Section.{Section}
 use Rattle.framing.specs.declared.read.Cursor.{Cursor}
@@ -35,7 +37,7 @@ use Rattle.index.specs.declared.refusal.Refusal.{Refusal}
 use Rattle.index.specs.declared.refusal.Outcome.the-variants as outcome
 use Rattle.index.specs.declared.bounds.Room.{Room}
 use Rattle.index.specs.Walk.{Reached, atStart, stops, passes, judgement, walked}
-use Rattle.walk_laws.specs.Rows.{Not, Iff, Rows, none, row, First, NoRow}
+use Rattle.walk_laws.specs.Rows.{Rows, noMore, row, FirstRow, NoRow}
 
 -- 1: a file is at most 2^40 octets
 abbrev pub TooLong : List ℕ → Type 0
@@ -68,7 +70,7 @@ abbrev pub rows0 : List ℕ → ℕ → Rows
 rows0 file g =
     row 3 (OtherEdition file g) (edition file g)
     (row 4 (TotalUnder16 file g) 0
-    none)
+    noMore)
 
 -- 2: 1 to 3 octets left for section 8
 abbrev pub EndCut : List ℕ → ℕ → Type 0
@@ -77,21 +79,22 @@ EndCut file at = (1 ≤ left file at) × (left file at ≤ 3)
 -- 5: section 8 not "7777"
 abbrev pub NotSevens : List ℕ → ℕ → Type 0
 NotSevens file at =
-    Not ((getD file at 0 ≡ 55) × (getD file (at + 1) 0 ≡ 55) × (getD file (at + 2) 0 ≡ 55) × (getD file (at + 3) 0 ≡ 55))
+    Not ((getD file at 0 ≡ 55) × (getD file (at + 1) 0 ≡ 55) × (getD file (at + 2) 0 ≡ 55)
+    × (getD file (at + 3) 0 ≡ 55))
 
 -- Section 8: 2, 5.
 abbrev pub rows8 : List ℕ → ℕ → Rows
 rows8 file at =
     row 2 (EndCut file at) 0
     (row 5 (NotSevens file at) 0
-    none)
+    noMore)
 
 -- A header: length in 4, number in 1; then length less 5 of payload.
 abbrev pub len : List ℕ → ℕ → ℕ
 len file at = beAt file at 4
 
-abbrev pub number : List ℕ → ℕ → ℕ
-number file at = getD file (at + 4) 0
+abbrev pub numberThere : List ℕ → ℕ → ℕ
+numberThere file at = getD file (at + 4) 0
 
 abbrev pub payload : List ℕ → ℕ → ℕ
 payload file at = len file at - 5
@@ -106,14 +109,15 @@ LengthUnder5 file at = len file at < 5
 
 -- 7: number not 1 to 7 in a header
 abbrev pub NumberNot1To7 : List ℕ → ℕ → Type 0
-NumberNot1To7 file at = Not ((1 ≤ number file at) × (number file at ≤ 7))
+NumberNot1To7 file at = Not ((1 ≤ numberThere file at) × (numberThere file at ≤ 7))
 
 -- 2: payload of 1 to 6 cut; and a section 6 of length 5 is 2 if the file ends after its header
 abbrev pub PayloadCut : List ℕ → ℕ → Type 0
 PayloadCut file at =
-    (1 ≤ number file at)
-    × (number file at ≤ 6)
-    × ((left file at < len file at) ⊎ ((number file at ≡ 6) × (len file at ≡ 5) × (left file at ≡ 5)))
+    (1 ≤ numberThere file at)
+    × (numberThere file at ≤ 6)
+    × ((left file at < len file at)
+    ⊎ ((numberThere file at ≡ 6) × (len file at ≡ 5) × (left file at ≡ 5)))
 
 -- 8: payload under its least
 abbrev pub Under : LeastPayload → ℕ → Type 0
@@ -121,7 +125,7 @@ Under (Octets least) size = size < least
 Under NoHeader size = ⊥
 
 abbrev pub UnderLeast : List ℕ → ℕ → Type 0
-UnderLeast file at = Under (leastPayloadOf (number file at)) (payload file at)
+UnderLeast file at = Under (leastPayloadOf (numberThere file at)) (payload file at)
 
 -- 9: section longer than the rest
 abbrev pub LongerThanRest : List ℕ → ℕ → ℕ → Type 0
@@ -132,26 +136,32 @@ abbrev pub rowsBehindHeader : List ℕ → ℕ → ℕ → Rows
 rowsBehindHeader file at rest =
     row 2 (HeaderCut file at) 0
     (row 6 (LengthUnder5 file at) (len file at)
-    (row 7 (NumberNot1To7 file at) (number file at)
+    (row 7 (NumberNot1To7 file at) (numberThere file at)
     (row 2 (PayloadCut file at) 0
     (row 8 (UnderLeast file at) (payload file at)
     (row 9 (LongerThanRest file at rest) (len file at)
-    none)))))
+    noMore)))))
 
--- The section in hand where a read is made at `at` with `rest` octets of the message to come: this is so of its offset and its rows.
+-- The section in hand where a read is made at `at` with `rest` octets of the message to come: this
+-- is so of its offset and its rows.
 pub data InHand (file : List ℕ) (at rest : ℕ) (So : ℕ → Rows → Type 0) : Type 0 where
-  section0 : {g : ℕ} → rest ≡ 0 → IsNextStart file at (At g) → So g (rows0 file g) → InHand file at rest So
-  section8 : rest ≡ 4 → at < length file → So at (rows8 file at) → InHand file at rest So
-  behindHeader : Not (rest ≡ 0) → Not (rest ≡ 4) → at < length file → So at (rowsBehindHeader file at rest) → InHand file at rest So
+  hand0 : {g : ℕ} → rest ≡ 0 → IsNextStart file at (At g) → So g (rows0 file g)
+      → InHand file at rest So
+  hand8 : rest ≡ 4 → at < length file → So at (rows8 file at) → InHand file at rest So
+  behindHeader : Not (rest ≡ 0) → Not (rest ≡ 4) → at < length file
+      → So at (rowsBehindHeader file at rest) → InHand file at rest So
 
--- there is none, the input is over: no message starts, or no octet is left where a header or section 8 is due
+-- there is none, the input is over: no message starts, or no octet is left where a header or
+-- section 8 is due
 pub data NoneInHand (file : List ℕ) (at rest : ℕ) : Type 0 where
   noStart : rest ≡ 0 → IsNextStart file at Nowhere → NoneInHand file at rest
   noOctet : Not (rest ≡ 0) → length file ≤ at → NoneInHand file at rest
 
--- it can't be read: the first row that holds has this number and detail, and the section would have this offset
-abbrev pub Unreadable : List ℕ → ℕ → ℕ → ℕ → ℕ → ℕ → Type 0
-Unreadable file at rest n offset d = InHand file at rest (λ o rows. (offset ≡ o) × First rows n d)
+-- it can't be read: the first row that holds has this number and detail, and the section would have
+-- this offset
+abbrev pub CannotBeRead : List ℕ → ℕ → ℕ → ℕ → ℕ → ℕ → Type 0
+CannotBeRead file at rest n offset d =
+    InHand file at rest (λ o rows. (offset ≡ o) × FirstRow rows n d)
 
 -- it is well read: no row holds
 abbrev pub WellRead : List ℕ → ℕ → ℕ → ℕ → Type 0
@@ -174,12 +184,13 @@ CanCome SubmessageStart n = (n ≡ 2) ⊎ ((n ≡ 3) ⊎ (n ≡ 4))
 abbrev pub NoGridYet : Order → ℕ → Type 0
 NoGridYet order n = (order ≡ AfterIdentification) × (n ≡ 4)
 
--- after 7 any section but 8 completes a submessage that goes on, and section 8 closes the message: a line is due
+-- after 7 any section but 8 completes a submessage that goes on, and section 8 closes the message:
+-- a line is due
 abbrev pub GoesOn : Order → ℕ → Type 0
 GoesOn order n = (order ≡ AfterData) × Not (n ≡ 8)
 
-abbrev pub Closes : Order → ℕ → Type 0
-Closes order n = (order ≡ AfterData) × (n ≡ 8)
+abbrev pub ClosesMessage : Order → ℕ → Type 0
+ClosesMessage order n = (order ≡ AfterData) × (n ≡ 8)
 
 -- the tables are full
 abbrev pub RowsFull : Room → Reached → Type 0
@@ -188,20 +199,21 @@ RowsFull room r = room .rows ≤ r .sections
 abbrev pub LinesFull : Room → Reached → Type 0
 LinesFull room r = room .lines ≤ r .lines
 
--- After a good read: 14 for a submessage that goes on, then 11 or 12, then 13; for a section 8 that closes: 13, then 14.
+-- After a good read: 14 for a submessage that goes on, then 11 or 12, then 13; for a section 8 that
+-- closes: 13, then 14.
 abbrev pub rowsAfterRead : Room → Reached → Section → Rows
 rowsAfterRead room r s =
     row 14 (GoesOn (r .order) (s .number) × LinesFull room r) 0
     (row 12 (NoGridYet (r .order) (s .number)) (s .number)
     (row 11 (Not (CanCome (r .order) (s .number))) (s .number)
     (row 13 (RowsFull room r) 0
-    (row 14 (Closes (r .order) (s .number) × LinesFull room r) 0
-    none))))
+    (row 14 (ClosesMessage (r .order) (s .number) × LinesFull room r) 0
+    noMore))))
 
 -- One read.
 pub record ReadRefused (file : List ℕ) (at rest n offset d : ℕ) : Type 0 where
   pub fault : Fault
-  pub refuses : readAt file at rest ≡ refused fault offset
+  pub refuses : readAt file at rest ≡ refusedAt fault offset
   pub numbered : n ≡ faultNumber fault
   pub detailed : d ≡ faultDetail fault
 
@@ -214,13 +226,17 @@ pub record ReadWell (file : List ℕ) (at rest offset : ℕ) : Type 0 where
 -- One read is refused by 2 to 9, or good, or over.
 abbrev pub RefusedExactlyWhen : Type 0
 RefusedExactlyWhen =
-    (file : List ℕ) (at rest n offset d : ℕ) → Iff (ReadRefused file at rest n offset d) (Unreadable file at rest n offset d)
+    (file : List ℕ) (at rest n offset d : ℕ)
+    → Iff (ReadRefused file at rest n offset d) (CannotBeRead file at rest n offset d)
 
 abbrev pub ReadExactlyWhen : Type 0
-ReadExactlyWhen = (file : List ℕ) (at rest offset : ℕ) → Iff (ReadWell file at rest offset) (WellRead file at rest offset)
+ReadExactlyWhen =
+    (file : List ℕ) (at rest offset : ℕ)
+    → Iff (ReadWell file at rest offset) (WellRead file at rest offset)
 
 abbrev pub OverExactlyWhen : Type 0
-OverExactlyWhen = (file : List ℕ) (at rest : ℕ) → Iff (readAt file at rest ≡ read.Over) (NoneInHand file at rest)
+OverExactlyWhen =
+    (file : List ℕ) (at rest : ℕ) → Iff (readAt file at rest ≡ read.Over) (NoneInHand file at rest)
 
 -- One well-read section.
 pub record Stopped (room : Room) (r : Reached) (s : Section) (n d : ℕ) : Type 0 where
@@ -230,7 +246,7 @@ pub record Stopped (room : Room) (r : Reached) (s : Section) (n d : ℕ) : Type 
   pub numbered : n ≡ refusalNumber why
   pub detailed : d ≡ refusalDetail why
 
-pub record Passed (room : Room) (r : Reached) (s : Section) : Type 0 where
+pub record PassesOn (room : Room) (r : Reached) (s : Section) : Type 0 where
   pub lines : List Line
   pub closed : ℕ
   pub reached : Reached
@@ -239,34 +255,41 @@ pub record Passed (room : Room) (r : Reached) (s : Section) : Type 0 where
 -- It stops the walk by 11 to 14, or is passed.
 abbrev pub StoppedExactlyWhen : Type 0
 StoppedExactlyWhen =
-    (room : Room) (r : Reached) (s : Section) (n d : ℕ) → Iff (Stopped room r s n d) (First (rowsAfterRead room r s) n d)
+    (room : Room) (r : Reached) (s : Section) (n d : ℕ)
+    → Iff (Stopped room r s n d) (FirstRow (rowsAfterRead room r s) n d)
 
 abbrev pub PassedExactlyWhen : Type 0
-PassedExactlyWhen = (room : Room) (r : Reached) (s : Section) → Iff (Passed room r s) (NoRow (rowsAfterRead room r s))
+PassedExactlyWhen =
+    (room : Room) (r : Reached) (s : Section)
+    → Iff (PassesOn room r s) (NoRow (rowsAfterRead room r s))
 
--- The whole walk. It comes to a read at `at` with `rest` octets to come and with `r` reached: all sections before were read and passed.
+-- The whole walk. It comes to a read at `at` with `rest` octets to come and with `r` reached: all
+-- sections before were read and passed.
 pub data Comes (room : Room) (file : List ℕ) : ℕ → ℕ → Reached → Type 0 where
   started : Comes room file 0 0 atStart
-  further : {at rest closed : ℕ} {r reached : Reached} {s : Section} {cursor : Cursor} {lines : List Line}
+  goesFurther : {at rest closed : ℕ} {r reached : Reached} {s : Section} {cursor : Cursor}
+      {lines : List Line}
       → Comes room file at rest r
       → readAt file at rest ≡ read.Section s cursor
       → judgement room r s ≡ passes lines closed reached
       → Comes room file (cursor .at .0) (cursor .rest) reached
 
--- number, place, offset and detail of a refusal: for 1 zeros; for 2 to 9 those that the section in hand would have; for 10 those of
--- the last section read; for 11 to 14 those of the section just read
+-- number, place, offset and detail of a refusal: for 1 zeros; for 2 to 9 those that the section in
+-- hand would have; for 10 those of the last section read; for 11 to 14 those of the section just
+-- read
 pub data Given (room : Room) (file : List ℕ) : ℕ → ℕ → ℕ → ℕ → Type 0 where
   tooLong : TooLong file → Given room file 1 0 0 0
   unread : {at rest n offset d : ℕ} {r : Reached} → NotTooLong file → Comes room file at rest r
-      → Unreadable file at rest n offset d
+      → CannotBeRead file at rest n offset d
       → Given room file n (r .sections) offset d
   inputOver : {at rest : ℕ} {r : Reached} → NotTooLong file → Comes room file at rest r
       → NoneInHand file at rest
       → Not (r .order ≡ BetweenMessages)
       → Given room file 10 (r .last .place .0) (r .last .section .offset .0) 0
-  misjudged : {at rest n d : ℕ} {r : Reached} {s : Section} {cursor : Cursor} → NotTooLong file → Comes room file at rest r
+  misjudged : {at rest n d : ℕ} {r : Reached} {s : Section} {cursor : Cursor} → NotTooLong file
+      → Comes room file at rest r
       → readAt file at rest ≡ read.Section s cursor
-      → First (rowsAfterRead room r s) n d
+      → FirstRow (rowsAfterRead room r s) n d
       → Given room file n (r .sections) (s .offset .0) d
 
 -- a clean end: the input is over before a message
@@ -280,7 +303,10 @@ pub data EndsClean (room : Room) (file : List ℕ) : Type 0 where
 abbrev pub WalkRefusedExactlyWhen : Type 0
 WalkRefusedExactlyWhen =
     (room : Room) (file : List ℕ) (n p o d : ℕ) → Not (n ≡ 0)
-    → Iff (endOf (walked room file .outcome) ≡ record { outcome = n; place = p; offset = o; detail = d }) (Given room file n p o d)
+    → Iff (endOf (walked room file .outcome)
+    ≡ record { outcome = n; place = p; offset = o; detail = d }) (Given room file n p o d)
 
 abbrev pub WalkCleanExactlyWhen : Type 0
-WalkCleanExactlyWhen = (room : Room) (file : List ℕ) → Iff (walked room file .outcome ≡ outcome.Clean) (EndsClean room file)
+WalkCleanExactlyWhen =
+    (room : Room) (file : List ℕ)
+    → Iff (walked room file .outcome ≡ outcome.Clean) (EndsClean room file)

@@ -1,13 +1,15 @@
--- What 01 says of every walk: closed messages are tiled by their sections ("Framing"), a true section 8 never has place 0 ("Order"), and
--- tables that are large enough change nothing. The counts of an answer are the lengths of what is told, by definition: no statement
--- says so. The statements are proved in proofs/Messages, Counts and Places.antt, under their names in small letters. Assumes nothing.
+-- What 01 says of every walk: closed messages are tiled by their sections ("Framing"), a true
+-- section 8 never has place 0 ("Order"), and tables that are large enough change nothing. The
+-- counts of an answer are the lengths of what is told, by definition: no statement says so. The
+-- statements are proved in proofs/Messages, Counts and Places.antt, under their names in small
+-- letters.
 use Prim.Native.Nat.{ℕ, _+_, _≤_}
 use mathlib.Core.Path.{_≡_}
 use mathlib.Core.List.{List, [], _∷_, _++_}
 use mathlib.Core.Logic.{_⊎_}
 use lib.Dec.{eqb}
 use lib.ListN.{length, getD}
-use Rattle.octets.specs.Choice.{pick}
+use Rattle.octets.specs.Words.{pick, Not}
 use Rattle.framing.specs.declared.read.Section.{Section}
 use Rattle.index.specs.declared.line.Line.{Line}
 use Rattle.index.specs.Numbers.{endOf}
@@ -15,7 +17,6 @@ use Rattle.index.specs.declared.refusal.Outcome.the-variants as outcome
 use Rattle.index.specs.Bounds.{unlimited}
 use Rattle.index.specs.declared.bounds.Room.{Room}
 use Rattle.index.specs.Walk.{walked}
-use Rattle.walk_laws.specs.Rows.{Not}
 use Rattle.walk_laws.specs.ExactlyWhen.{total}
 
 -- it is so of each
@@ -34,7 +35,8 @@ EndToEnd at [] = Unit
 EndToEnd at (s ∷ more) = (s .offset .0 ≡ at) × EndToEnd (at + s .length) more
 
 -- among the sections told, a message that is closed: a section 0, others, a section 8
-pub record ClosedMessage (told : List Section) (zeroth : Section) (others : List Section) (eighth : Section) (after : List Section)
+pub record ClosedMessage (told : List Section) (zeroth : Section) (others : List Section)
+    (eighth : Section) (after : List Section)
     : Type 0 where
   pub before : List Section
   pub listed : told ≡ before ++ (zeroth ∷ (others ++ (eighth ∷ after)))
@@ -42,16 +44,18 @@ pub record ClosedMessage (told : List Section) (zeroth : Section) (others : List
   pub inside : Every (λ s. Not (s .number ≡ 0)) others
   pub ends : eighth .number ≡ 8
 
--- in a closed message each section starts where the one before ended, and the lengths sum to the total length
+-- in a closed message each section starts where the one before ended, and the lengths sum to the
+-- total length
 abbrev pub ClosedMessagesAreTiled : Type 0
 ClosedMessagesAreTiled =
-    (room : Room) (file : List ℕ) (zeroth : Section) (others : List Section) (eighth : Section) (after : List Section)
+    (room : Room) (file : List ℕ) (zeroth : Section) (others : List Section) (eighth : Section)
+    (after : List Section)
     → ClosedMessage (walked room file .sections) zeroth others eighth after
     → EndToEnd (zeroth .offset .0) (zeroth ∷ (others ++ (eighth ∷ [])))
     × (lengths (zeroth ∷ (others ++ (eighth ∷ []))) ≡ total file (zeroth .offset .0))
 
 -- every section 8 told closes such a message
-pub record Closing (told : List Section) (eighth : Section) (after : List Section) : Type 0 where
+pub record ClosesOne (told : List Section) (eighth : Section) (after : List Section) : Type 0 where
   pub zeroth : Section
   pub others : List Section
   pub message : ClosedMessage told zeroth others eighth after
@@ -61,15 +65,17 @@ EachEndClosesAMessage =
     (room : Room) (file : List ℕ) (before : List Section) (eighth : Section) (after : List Section)
     → walked room file .sections ≡ before ++ (eighth ∷ after)
     → eighth .number ≡ 8
-    → Closing (walked room file .sections) eighth after
+    → ClosesOne (walked room file .sections) eighth after
 
 -- as many messages are closed as sections 8 are told
-abbrev pub ends : List Section → ℕ
-ends [] = 0
-ends (s ∷ more) = pick (eqb (s .number) 8) 1 0 + ends more
+abbrev pub endSections : List Section → ℕ
+endSections [] = 0
+endSections (s ∷ more) = pick (eqb (s .number) 8) 1 0 + endSections more
 
 abbrev pub MessagesAreEnds : Type 0
-MessagesAreEnds = (room : Room) (file : List ℕ) → walked room file .messages ≡ ends (walked room file .sections)
+MessagesAreEnds =
+    (room : Room) (file : List ℕ)
+    → walked room file .messages ≡ endSections (walked room file .sections)
 
 -- the number of the section at a place of the list; 0 where there is none
 abbrev pub numberAt : List Section → ℕ → ℕ
@@ -77,13 +83,15 @@ numberAt told k = getD told k (record { number = 0; offset = record { 0 = 0 }; l
 
 -- a true section 8 never has place 0
 abbrev pub NoEndAtPlace0 : Type 0
-NoEndAtPlace0 = (room : Room) (file : List ℕ) (k : ℕ) → numberAt (walked room file .sections) k ≡ 8 → 1 ≤ k
+NoEndAtPlace0 =
+    (room : Room) (file : List ℕ) (k : ℕ) → numberAt (walked room file .sections) k ≡ 8 → 1 ≤ k
 
 -- a line's end place is 0, where the message goes on, or that of a section 8 told
 abbrev pub EndPlacesAreEnds : Type 0
 EndPlacesAreEnds =
     (room : Room) (file : List ℕ)
-    → Every (λ line. (line .end .0 ≡ 0) ⊎ (numberAt (walked room file .sections) (line .end .0) ≡ 8)) (walked room file .lines)
+    → Every (λ line. (line .end .0 ≡ 0)
+    ⊎ (numberAt (walked room file .sections) (line .end .0) ≡ 8)) (walked room file .lines)
 
 -- as many messages are closed as lines have another end place than 0
 abbrev pub closers : List Line → ℕ
@@ -91,21 +99,25 @@ closers [] = 0
 closers (line ∷ more) = pick (eqb (line .end .0) 0) 0 1 + closers more
 
 abbrev pub MessagesAreClosers : Type 0
-MessagesAreClosers = (room : Room) (file : List ℕ) → walked room file .messages ≡ closers (walked room file .lines)
+MessagesAreClosers =
+    (room : Room) (file : List ℕ) → walked room file .messages ≡ closers (walked room file .lines)
 
 -- no more sections are told than the file has octets, and no more lines than sections
 abbrev pub FewerThanOctets : Type 0
 FewerThanOctets =
     (room : Room) (file : List ℕ)
-    → (length (walked room file .sections) ≤ length file) × (length (walked room file .lines) ≤ length (walked room file .sections))
+    → (length (walked room file .sections) ≤ length file)
+    × (length (walked room file .lines) ≤ length (walked room file .sections))
 
 -- no more sections and lines are told than the tables have room for
 abbrev pub WithinRoom : Type 0
 WithinRoom =
     (room : Room) (file : List ℕ)
-    → (length (walked room file .sections) ≤ room .rows) × (length (walked room file .lines) ≤ room .lines)
+    → (length (walked room file .sections) ≤ room .rows)
+    × (length (walked room file .lines) ≤ room .lines)
 
--- the place of a refusal, but for 1 and 10, is that which the section in hand would have: as many sections are told before it
+-- the place of a refusal, but for 1 and 10, is that which the section in hand would have: as many
+-- sections are told before it
 abbrev pub PlaceIsCount : Type 0
 PlaceIsCount =
     (room : Room) (file : List ℕ) (n p o d : ℕ) → Not (n ≡ 0) → Not (n ≡ 1) → Not (n ≡ 10)
@@ -114,7 +126,8 @@ PlaceIsCount =
 
 -- the offset of the section at a place of the list
 abbrev pub offsetAt : List Section → ℕ → ℕ
-offsetAt told k = getD told k (record { number = 0; offset = record { 0 = 0 }; length = 0 }) .offset .0
+offsetAt told k =
+    getD told k (record { number = 0; offset = record { 0 = 0 }; length = 0 }) .offset .0
 
 -- 10 has the place and the offset of the last section told
 abbrev pub InputOverAtLast : Type 0
@@ -140,4 +153,6 @@ CleanInAnyRoom =
 
 -- so with unlimited ones
 abbrev pub CleanIsUnlimited : Type 0
-CleanIsUnlimited = (room : Room) (file : List ℕ) → walked room file .outcome ≡ outcome.Clean → walked unlimited file ≡ walked room file
+CleanIsUnlimited =
+    (room : Room) (file : List ℕ) → walked room file .outcome ≡ outcome.Clean
+    → walked unlimited file ≡ walked room file

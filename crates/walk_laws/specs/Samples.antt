@@ -1,5 +1,5 @@
--- The samples of 01 ("Sample files"): the starred ones as a single statement over their list, and the others; proofs/Computed.antt has
--- them by computing. Assumes nothing.
+-- The samples of 01 ("Sample files"): the starred ones as a single statement over their list, and
+-- the others; proofs/Computed.antt has them by computing.
 use Prim.Native.Nat.{ℕ, _+_}
 use mathlib.Core.Path.{_≡_}
 use mathlib.Core.List.{List, [], _∷_, _++_, map}
@@ -19,47 +19,48 @@ use Rattle.index.specs.Bounds.{unlimited}
 use Rattle.index.specs.Walk.{Told, walked}
 
 -- section 0: "GRIB", 2 reserved, discipline, edition, total length in 8
-abbrev pub section0 : ℕ → List ℕ
-section0 total = 71 ∷ 82 ∷ 73 ∷ 66 ∷ 255 ∷ 255 ∷ 0 ∷ 2 ∷ 0 ∷ 0 ∷ 0 ∷ 0 ∷ 0 ∷ 0 ∷ 0 ∷ total ∷ []
+abbrev pub sample0 : ℕ → List ℕ
+sample0 total = 71 ∷ 82 ∷ 73 ∷ 66 ∷ 255 ∷ 255 ∷ 0 ∷ 2 ∷ 0 ∷ 0 ∷ 0 ∷ 0 ∷ 0 ∷ 0 ∷ 0 ∷ total ∷ []
 
--- a section with a header, and a payload of so many octets: "GRIB7777" over and over, which no walk may take for a start or an end
-abbrev pub section : ℕ → ℕ → List ℕ
-section number size = 0 ∷ 0 ∷ 0 ∷ (size + 5) ∷ number ∷ take size (word ++ word)
+-- a section with a header, and a payload of so many octets: "GRIB7777" over and over, which no walk
+-- may take for a start or an end
+abbrev pub sampleSection : ℕ → ℕ → List ℕ
+sampleSection number size = 0 ∷ 0 ∷ 0 ∷ (size + 5) ∷ number ∷ take size (word ++ word)
   where
     word : List ℕ
     word = 71 ∷ 82 ∷ 73 ∷ 66 ∷ 55 ∷ 55 ∷ 55 ∷ 55 ∷ []
 
 -- section 8: "7777"
-abbrev pub section8 : List ℕ
-section8 = 55 ∷ 55 ∷ 55 ∷ 55 ∷ []
+abbrev pub sample8 : List ℕ
+sample8 = 55 ∷ 55 ∷ 55 ∷ 55 ∷ []
 
 -- sections 4, 5 and 6 with least payloads
 abbrev pub from4to6 : List ℕ
-from4to6 = section 4 4 ++ section 5 6 ++ section 6 1
+from4to6 = sampleSection 4 4 ++ sampleSection 5 6 ++ sampleSection 6 1
 
 -- sections 0, 1, 3, 4, 5 and 6 with least payloads, of a message with this total length
 abbrev pub before7 : ℕ → List ℕ
-before7 total = section0 total ++ section 1 16 ++ section 3 9 ++ from4to6
+before7 total = sample0 total ++ sampleSection 1 16 ++ sampleSection 3 9 ++ from4to6
 
 -- sections 0 to 7 with least payloads
 abbrev pub to7 : ℕ → List ℕ
-to7 total = before7 total ++ section 7 0
+to7 total = before7 total ++ sampleSection 7 0
 
 -- 0, 1, 3, 4, 5, 6, 7, 8 with least payloads, 86 octets
 abbrev pub fileA : List ℕ
-fileA = to7 86 ++ section8
+fileA = to7 86 ++ sample8
 
 -- A with 4, 5, 6, 7 again before its end, 117 octets
 abbrev pub twice : List ℕ
-twice = to7 117 ++ from4to6 ++ section 7 0 ++ section8
+twice = to7 117 ++ from4to6 ++ sampleSection 7 0 ++ sample8
 
 -- A, a section 5 after 7, total 97
 abbrev pub fiveAfter7 : List ℕ
-fiveAfter7 = to7 97 ++ section 5 6 ++ section8
+fiveAfter7 = to7 97 ++ sampleSection 5 6 ++ sample8
 
 -- A, section 7 of length 10, with this total length
 abbrev pub longer7 : ℕ → List ℕ
-longer7 total = before7 total ++ section 7 5 ++ section8
+longer7 total = before7 total ++ sampleSection 7 5 ++ sample8
 
 -- a line as it is printed: message, submessage, and nine places
 abbrev pub line : ℕ → ℕ → ℕ → ℕ → LocalUsePlace → ℕ → ℕ → ℕ → ℕ → ℕ → ℕ → Line
@@ -79,17 +80,19 @@ line message submessage zeroth first second third fourth fifth sixth seventh eig
     }
 
 -- no section 2, and one at a place
-abbrev pub none : LocalUsePlace
-none = Absent
+abbrev pub noLocal : LocalUsePlace
+noLocal = Absent
 
 abbrev pub at : ℕ → LocalUsePlace
 at n = At (place n)
 
 -- outcome, place, offset, detail
 abbrev pub end : ℕ → ℕ → ℕ → ℕ → End
-end outcome place offset detail = record { outcome = outcome; place = place; offset = offset; detail = detail }
+end outcome place offset detail =
+    record { outcome = outcome; place = place; offset = offset; detail = detail }
 
--- a walk as it is printed: how many sections, and their offsets; the submessage lines; how many messages; the end
+-- a walk as it is printed: how many sections, and their offsets; the submessage lines; how many
+-- messages; the end
 pub record Printed : Type 0 where
   pub sections : ℕ
   pub offsets : List ℕ
@@ -99,11 +102,18 @@ pub record Printed : Type 0 where
 
 abbrev pub prints : ℕ → List ℕ → List Line → ℕ → End → Printed
 prints sections offsets submessages messages ended =
-    record { sections = sections; offsets = offsets; submessages = submessages; messages = messages; ended = ended }
+    record {
+      sections = sections;
+      offsets = offsets;
+      submessages = submessages;
+      messages = messages;
+      ended = ended;
+    }
 
 unfoldable pub printed : Told → Printed
 printed told =
-    prints (length (told .sections)) (map (λ (s : Section). s .offset .0) (told .sections)) (told .lines) (told .messages)
+    prints (length (told .sections)) (map (λ (s : Section). s .offset .0) (told .sections))
+    (told .lines) (told .messages)
     (endOf (told .outcome))
 
 -- a sample is a file to walk, or octets that write a signed number
@@ -142,19 +152,22 @@ offsets7 = 0 ∷ 16 ∷ 37 ∷ 51 ∷ 60 ∷ 71 ∷ 77 ∷ []
 -- the starred samples, in 01's order
 unfoldable pub starred : List Sample
 starred =
-    walks fileA (prints 8 (0 ∷ 16 ∷ 37 ∷ 51 ∷ 60 ∷ 71 ∷ 77 ∷ 82 ∷ []) (line 0 0 0 1 none 2 3 4 5 6 7 ∷ []) 1 (end 0 0 0 0))
+    walks fileA (prints 8 (0 ∷ 16 ∷ 37 ∷ 51 ∷ 60 ∷ 71 ∷ 77 ∷ 82 ∷ [])
+    (line 0 0 0 1 noLocal 2 3 4 5 6 7 ∷ []) 1 (end 0 0 0 0))
     ∷ walks twice
-    (prints 12 (offsets7 ++ 82 ∷ 91 ∷ 102 ∷ 108 ∷ 113 ∷ []) (line 0 0 0 1 none 2 3 4 5 6 0 ∷ line 0 1 0 1 none 2 7 8 9 10 11 ∷ []) 1
+    (prints 12 (offsets7 ++ 82 ∷ 91 ∷ 102 ∷ 108 ∷ 113 ∷ [])
+    (line 0 0 0 1 noLocal 2 3 4 5 6 0 ∷ line 0 1 0 1 noLocal 2 7 8 9 10 11 ∷ []) 1
     (end 0 0 0 0))
-    ∷ walks fiveAfter7 (prints 7 offsets7 (line 0 0 0 1 none 2 3 4 5 6 0 ∷ []) 0 (end 11 7 82 5))
-    ∷ walks (section0 46 ++ section 1 16 ++ section 4 4) (prints 2 (0 ∷ 16 ∷ []) [] 0 (end 12 2 37 4))
+    ∷ walks fiveAfter7 (prints 7 offsets7 (line 0 0 0 1 noLocal 2 3 4 5 6 0 ∷ []) 0 (end 11 7 82 5))
+    ∷ walks (sample0 46 ++ sampleSection 1 16 ++ sampleSection 4 4)
+    (prints 2 (0 ∷ 16 ∷ []) [] 0 (end 12 2 37 4))
     ∷ walks [] (prints 0 [] [] 0 (end 0 0 0 0))
     ∷ walks (take 82 fileA) (prints 7 offsets7 [] 0 (end 10 6 77 0))
     ∷ walks (take 84 fileA) (prints 7 offsets7 [] 0 (end 2 7 82 0))
     ∷ walks (take 84 (longer7 91)) (prints 7 offsets7 [] 0 (end 10 6 77 0))
     ∷ walks (take 84 (longer7 86)) (prints 6 offsets6 [] 0 (end 9 6 77 10))
-    ∷ walks (to7 15 ++ section8) (prints 0 [] [] 0 (end 4 0 0 0))
-    ∷ walks (section0 16) (prints 1 (0 ∷ []) [] 0 (end 10 0 0 0))
+    ∷ walks (to7 15 ++ sample8) (prints 0 [] [] 0 (end 4 0 0 0))
+    ∷ walks (sample0 16) (prints 1 (0 ∷ []) [] 0 (end 10 0 0 0))
     ∷ is (128 ∷ 0 ∷ 1 ∷ []) (negℤ (pos 1))
     ∷ is (128 ∷ 0 ∷ 0 ∷ []) (pos 0)
     ∷ []
@@ -162,33 +175,38 @@ starred =
 -- a file of ours: a message with a section 2 and, after 7, a new section 3; then "GRI", and A
 abbrev pub withSection2 : List ℕ
 withSection2 =
-    section0 139 ++ section 1 16 ++ section 2 3 ++ section 3 9 ++ from4to6 ++ section 7 0
-    ++ section 3 9 ++ from4to6 ++ section 7 0 ++ section8 ++ 71 ∷ 82 ∷ 73 ∷ fileA
+    sample0 139 ++ sampleSection 1 16 ++ sampleSection 2 3 ++ sampleSection 3 9 ++ from4to6
+    ++ sampleSection 7 0
+    ++ sampleSection 3 9 ++ from4to6 ++ sampleSection 7 0 ++ sample8 ++ 71 ∷ 82 ∷ 73 ∷ fileA
 
 -- a file of ours: A, with the whole of A as the payload of its section 7
 abbrev pub inside7 : List ℕ
-inside7 = before7 172 ++ 0 ∷ 0 ∷ 0 ∷ 91 ∷ 7 ∷ fileA ++ section8
+inside7 = before7 172 ++ 0 ∷ 0 ∷ 0 ∷ 91 ∷ 7 ∷ fileA ++ sample8
 
--- the samples without a star, and those files: no start is looked for inside section 7; section 2 stays in force through the new 3, and
--- not into the next message
+-- the samples without a star, and those files: no start is looked for inside section 7; section 2
+-- stays in force through the new 3, and not into the next message
 unfoldable pub others : List Sample
 others =
     walks (take 15 fileA) (prints 0 [] [] 0 (end 0 0 0 0))
     ∷ walks (take 81 fileA) (prints 6 offsets6 [] 0 (end 2 6 77 0))
     ∷ walks (take 77 fileA) (prints 6 offsets6 [] 0 (end 10 5 71 0))
-    ∷ walks (section0 16 ++ fileA) (prints 1 (0 ∷ []) [] 0 (end 11 1 16 0))
-    ∷ walks inside7 (prints 8 (offsets7 ++ 168 ∷ []) (line 0 0 0 1 none 2 3 4 5 6 7 ∷ []) 1 (end 0 0 0 0))
+    ∷ walks (sample0 16 ++ fileA) (prints 1 (0 ∷ []) [] 0 (end 11 1 16 0))
+    ∷ walks inside7
+    (prints 8 (offsets7 ++ 168 ∷ []) (line 0 0 0 1 noLocal 2 3 4 5 6 7 ∷ []) 1 (end 0 0 0 0))
     ∷ walks withSection2
     (prints 22
-    (0 ∷ 16 ∷ 37 ∷ 45 ∷ 59 ∷ 68 ∷ 79 ∷ 85 ∷ 90 ∷ 104 ∷ 113 ∷ 124 ∷ 130 ∷ 135 ∷ 142 ∷ 158 ∷ 179 ∷ 193 ∷ 202 ∷ 213 ∷ 219 ∷ 224 ∷ [])
-    (line 0 0 0 1 (at 2) 3 4 5 6 7 0 ∷ line 0 1 0 1 (at 2) 8 9 10 11 12 13 ∷ line 1 0 14 15 none 16 17 18 19 20 21 ∷ []) 2 (end 0 0 0 0))
+    (0 ∷ 16 ∷ 37 ∷ 45 ∷ 59 ∷ 68 ∷ 79 ∷ 85 ∷ 90 ∷ 104 ∷ 113 ∷ 124 ∷ 130 ∷ 135 ∷ 142 ∷ 158 ∷ 179 ∷ 193
+    ∷ 202 ∷ 213 ∷ 219 ∷ 224 ∷ [])
+    (line 0 0 0 1 (at 2) 3 4 5 6 7 0 ∷ line 0 1 0 1 (at 2) 8 9 10 11 12 13
+    ∷ line 1 0 14 15 noLocal 16 17 18 19 20 21 ∷ []) 2 (end 0 0 0 0))
     ∷ is (255 ∷ 255 ∷ 255 ∷ []) (negℤ (pos 8388607))
     ∷ is (127 ∷ 255 ∷ 255 ∷ []) (pos 8388607)
     ∷ []
 
 -- each answer is the one expected
 abbrev pub Hold : List Sample → Type 0
-Hold samples = map (λ (s : Sample). answer (s .asked)) samples ≡ map (λ (s : Sample). s .answered) samples
+Hold samples =
+    map (λ (s : Sample). answer (s .asked)) samples ≡ map (λ (s : Sample). s .answered) samples
 
 -- 01's starred samples, all at once
 abbrev pub StarredHold : Type 0

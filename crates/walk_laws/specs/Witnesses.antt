@@ -1,5 +1,5 @@
--- For each refusal 1 to 14 a walk that gives it, and for the order of the rows walks at which two of them hold (01, "Refusal numbers").
--- Proved in proofs/Computed.antt. Assumes nothing.
+-- For each refusal 1 to 14 a walk that gives it, and for the order of the rows walks at which two
+-- of them hold (01, "Refusal numbers"). Proved in proofs/Computed.antt.
 use Prim.Native.Nat.{ℕ, _^_, _<_}
 use mathlib.Core.Path.{_≡_}
 use mathlib.Core.List.{List, [], _∷_, _++_, map}
@@ -13,7 +13,16 @@ use Rattle.index.specs.Bounds.{unlimited}
 use Rattle.index.specs.declared.bounds.Room.{Room}
 use Rattle.index.specs.Walk.{ends, walked}
 use Rattle.walk_laws.specs.ExactlyWhen.{TooLong}
-use Rattle.walk_laws.specs.Samples.{section0, section, section8, to7, fileA, twice, fiveAfter7, end}
+use Rattle.walk_laws.specs.Samples.{
+  sample0,
+  sampleSection,
+  sample8,
+  to7,
+  fileA,
+  twice,
+  fiveAfter7,
+  end,
+}
 
 -- a walk of a file, in tables of so many rows and lines, and how it ends
 pub record Witness : Type 0 where
@@ -25,11 +34,14 @@ abbrev pub ending : List ℕ → End → Witness
 ending file given = record { room = unlimited; file = file; given = given }
 
 abbrev pub endingIn : ℕ → ℕ → List ℕ → End → Witness
-endingIn rows lines file given = record { room = record { rows = rows; lines = lines }; file = file; given = given }
+endingIn rows lines file given =
+    record { room = record { rows = rows; lines = lines }; file = file; given = given }
 
 -- sections 0, 1, 3, 4, 5, and a section 6 of length 5
 abbrev pub bare6 : List ℕ
-bare6 = section0 200 ++ section 1 16 ++ section 3 9 ++ section 4 4 ++ section 5 6 ++ section 6 0
+bare6 =
+    sample0 200 ++ sampleSection 1 16 ++ sampleSection 3 9 ++ sampleSection 4 4 ++ sampleSection 5 6
+    ++ sampleSection 6 0
 
 unfoldable pub witnesses : List Witness
 witnesses =
@@ -40,10 +52,10 @@ witnesses =
     ∷ ending bare6 (end 2 5 71 0)
     -- 3; also where the total length is under 16, and in the second message
     ∷ ending (set fileA 7 3) (end 3 0 0 3)
-    ∷ ending (set (section0 15) 7 1) (end 3 0 0 1)
+    ∷ ending (set (sample0 15) 7 1) (end 3 0 0 1)
     ∷ ending (fileA ++ 1 ∷ set fileA 7 7) (end 3 8 87 7)
     -- 4
-    ∷ ending (section0 0) (end 4 0 0 0)
+    ∷ ending (sample0 0) (end 4 0 0 0)
     -- 5
     ∷ ending (set fileA 85 56) (end 5 7 82 0)
     -- 6; also where the number is not 1 to 7
@@ -52,22 +64,24 @@ witnesses =
     -- 7; also where the payload is cut
     ∷ ending (set fileA 20 0) (end 7 1 16 0)
     ∷ ending (take 30 (set fileA 20 8)) (end 7 1 16 8)
-    -- 8; also where the section is longer than the rest, and a section 6 of length 5 before the end of file
-    ∷ ending (section0 100 ++ section 1 15) (end 8 1 16 15)
-    ∷ ending (section0 30 ++ section 1 15) (end 8 1 16 15)
+    -- 8; also where the section is longer than the rest, and a section 6 of length 5 before the end
+    -- of file
+    ∷ ending (sample0 100 ++ sampleSection 1 15) (end 8 1 16 15)
+    ∷ ending (sample0 30 ++ sampleSection 1 15) (end 8 1 16 15)
     ∷ ending (bare6 ++ 0 ∷ []) (end 8 5 71 0)
     -- 9; and 2 where its payload is cut too
-    ∷ ending (section0 36 ++ section 1 16) (end 9 1 16 21)
-    ∷ ending (section0 36 ++ take 20 (section 1 16)) (end 2 1 16 0)
+    ∷ ending (sample0 36 ++ sampleSection 1 16) (end 9 1 16 21)
+    ∷ ending (sample0 36 ++ take 20 (sampleSection 1 16)) (end 2 1 16 0)
     -- 10: after section 0, and after a section 7 with nothing left of its message
-    ∷ ending (section0 16) (end 10 0 0 0)
+    ∷ ending (sample0 16) (end 10 0 0 0)
     ∷ ending (to7 82) (end 10 6 77 0)
     -- 11: a section 8 before 7, a section 0 inside a message
-    ∷ ending (section0 41 ++ section 1 16 ++ section8) (end 11 2 37 8)
-    ∷ ending (section0 16 ++ fileA) (end 11 1 16 0)
+    ∷ ending (sample0 41 ++ sampleSection 1 16 ++ sample8) (end 11 2 37 8)
+    ∷ ending (sample0 16 ++ fileA) (end 11 1 16 0)
     -- 12
-    ∷ ending (section0 100 ++ section 1 16 ++ section 4 4) (end 12 2 37 4)
-    -- 13: at a section, at a closing 8 where 14 holds too, and after a line of a submessage that goes on
+    ∷ ending (sample0 100 ++ sampleSection 1 16 ++ sampleSection 4 4) (end 12 2 37 4)
+    -- 13: at a section, at a closing 8 where 14 holds too, and after a line of a submessage that
+    -- goes on
     ∷ endingIn 1 1 fileA (end 13 1 16 0)
     ∷ endingIn 7 0 fileA (end 13 7 82 0)
     ∷ endingIn 7 1 twice (end 13 7 82 0)
@@ -83,7 +97,8 @@ witnesses =
 -- each is refused as it says
 abbrev pub WitnessesHold : Type 0
 WitnessesHold =
-    map (λ (w : Witness). endOf (walked (w .room) (w .file) .outcome)) witnesses ≡ map (λ (w : Witness). w .given) witnesses
+    map (λ (w : Witness). endOf (walked (w .room) (w .file) .outcome)) witnesses
+    ≡ map (λ (w : Witness). w .given) witnesses
 
 -- 1: any file over 2^40 octets; nothing is told of it
 abbrev pub TooLongRefused : Type 0

@@ -5,8 +5,8 @@ use mathlib.Core.Bool.{Bool, false, _||_}
 use mathlib.Core.List.{List, [], _∷_}
 use lib.Dec.{ltb}
 use lib.ListN.{length}
-use Rattle.octets.specs.Choice.{pick}
-use Rattle.sections.specs.Kinds.{leastPayloadOf}
+use Rattle.octets.specs.Words.{pick}
+use Rattle.sections.specs.Kinds.{headerSize, indicatorSize, endSize, endSection, leastPayloadOf}
 use Rattle.sections.specs.declared.kinds.LeastPayload.{LeastPayload}
 use Rattle.sections.specs.declared.kinds.LeastPayload.the-variants.{Octets, NoHeader}
 use Rattle.order.specs.Order.{judged}
@@ -80,7 +80,7 @@ closedAt NoGrid at = faultAt (planPlace at)
 
 -- 16: the first place whose number can't come next, or the plan's length if only the 8 misfits
 unfoldable pub misfitFrom : Order → ℕ → List Part → Finding
-misfitFrom order at [] = closedAt (judged order 8) at
+misfitFrom order at [] = closedAt (judged order (endSection .number)) at
 misfitFrom order at (part ∷ more) =
     orAt (judged order (part .number)) at (λ next. misfitFrom next (at + 1) more)
 
@@ -113,11 +113,11 @@ isWrongSize part =
 -- payload and 5 for each section
 unfoldable pub sectionsSize : List Part → ℕ
 sectionsSize [] = 0
-sectionsSize (part ∷ more) = part .length + 5 + sectionsSize more
+sectionsSize (part ∷ more) = part .length + headerSize + sectionsSize more
 
 -- total length: 16, the sections, and 4
 abbrev pub totalOf : List Part → ℕ
-totalOf parts = 16 + (sectionsSize parts + 4)
+totalOf parts = indicatorSize + (sectionsSize parts + endSize)
 
 -- a check that names a place refuses; after one that passes comes the next
 abbrev pub unless : Finding → (PlanPlace → Written) → Written → Written

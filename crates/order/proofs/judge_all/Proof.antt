@@ -8,8 +8,8 @@ use native.Mathlib.Omega.{arith}
 use lib.ListN.{length, drop, getD}
 use lib.Seq.{drop-cons, drop-length}
 use borrow.Author.Needs.{needs}
-use Rattle.octets.specs.Choice.{pick}
-use Rattle.order.specs.Order.{judged, isBetween, followed, orderFrom, orderOf}
+use Rattle.octets.specs.Words.{pick}
+use Rattle.order.specs.Order.{judged, isBetween, thenJudged, orderFrom, orderOf}
 use Rattle.order.specs.declared.Order.{Order}
 use Rattle.order.specs.declared.Order.the-variants.{BetweenMessages}
 use Rattle.order.specs.declared.Judged.{Judged}
@@ -39,7 +39,7 @@ module _ {numbers : List ℕ} {order : Order} {i : ℕ} (k : Kept numbers order 
   module _ (inside : i < length numbers) where
     -- the number at i is judged, and the rest after it
     decides : {w : Judged} → judged order (getD numbers i 0) ≡ w
-        → followed w i (λ next. orderFrom next (i + 1) (drop (i + 1) numbers)) ≡ orderOf numbers
+        → thenJudged w i (λ next. orderFrom next (i + 1) (drop (i + 1) numbers)) ≡ orderOf numbers
     unfolding orderFrom
     decides e =
         let left : drop i numbers ≡ getD numbers i 0 ∷ drop (i + 1) numbers = rw (add-one, drop-cons numbers i 0) in

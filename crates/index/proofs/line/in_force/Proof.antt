@@ -1,4 +1,4 @@
--- `in_force` meets its contract: section 2, a section that a place is kept for, or the end section. Assumes nothing.
+-- `in_force` meets its contract: section 2, a section that a place is kept for, or the end section.
 use borrow.Author.Needs.{needs}
 use borrow.Author.Tests.{eq-eqb, ne-eqb, lt-ltb, le-ltb}
 use Rattle.index.specs.Lines.{inForce}

@@ -1,4 +1,4 @@
--- `line_of` meets its contract: field by field what is in force. Assumes nothing.
+-- `line_of` meets its contract: field by field what is in force.
 use mathlib.Core.Path.{refl}
 use borrow.Author.Needs.{needs}
 use Rattle.index.specs.Lines.{lineOf}

@@ -1,4 +1,4 @@
--- `end_of` meets its contract: a clean end or a refusal. Assumes nothing.
+-- `end_of` meets its contract: a clean end or a refusal.
 use borrow.Author.Needs.{needs}
 use Rattle.index.specs.Numbers.{endOf}
 use Rattle.index.proofs.numbers.end_of.Statement.{statement}

@@ -1,4 +1,4 @@
--- `fault_detail` meets its contract: case by case. Assumes nothing.
+-- `fault_detail` meets its contract: case by case.
 use borrow.Author.Needs.{needs}
 use Rattle.index.specs.Numbers.{faultDetail}
 use Rattle.index.proofs.numbers.fault_detail.Statement.{statement}

@@ -1,4 +1,4 @@
--- `fault_number` meets its contract: case by case. Assumes nothing.
+-- `fault_number` meets its contract: case by case.
 use borrow.Author.Needs.{needs}
 use Rattle.index.specs.Numbers.{faultNumber}
 use Rattle.index.proofs.numbers.fault_number.Statement.{statement}

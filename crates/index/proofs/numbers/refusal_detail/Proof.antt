@@ -1,4 +1,4 @@
--- `refusal_detail` meets its contract: case by case. Assumes nothing.
+-- `refusal_detail` meets its contract: case by case.
 use mathlib.Core.Path.{_∙_}
 use borrow.Author.Needs.{needs}
 use Rattle.index.specs.Numbers.{refusalDetail}

@@ -1,4 +1,4 @@
--- `stored` meets its contract: a clean end, and the octets. Assumes nothing.
+-- `stored` meets its contract: a clean end, and the octets.
 use borrow.Author.Needs.{needs}
 use Rattle.index.specs.Numbers.{stored}
 use Rattle.index.proofs.numbers.stored.Statement.{statement}

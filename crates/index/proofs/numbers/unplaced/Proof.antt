@@ -1,4 +1,4 @@
--- `unplaced` meets its contract: its parts are the numbers that it is given, and zeros. Assumes nothing.
+-- `unplaced` meets its contract: its parts are the numbers that it is given, and zeros.
 use mathlib.Core.Path.{refl}
 use Rattle.index.specs.Numbers.{unplaced}
 use Rattle.index.proofs.numbers.unplaced.Statement.{statement}
