@@ -6,6 +6,7 @@ use lib.ListN.{getD, set, replicate}
 use Rattle.octets.specs.Words.{pick}
 use Rattle.sections.specs.Kinds as kinds
 use Rattle.order.specs.declared.Place.{Place}
+use Rattle.index.specs.declared.line.LocalUsePlace.{LocalUsePlace}
 use Rattle.index.specs.declared.line.LocalUsePlace.the-variants.{At, Absent}
 use Rattle.index.specs.declared.line.Force.{Force}
 use Rattle.index.specs.declared.line.Line.{Line}
@@ -32,24 +33,22 @@ abbrev pub opened : ℕ → Force
 opened message =
     record { message = message; submessage = 0; local = Absent; places = everyPlace (place 0) }
 
+-- the same, with another section 2
+abbrev pub withLocal : Force → LocalUsePlace → Force
+withLocal f local =
+    record { message = f .message; submessage = f .submessage; local = local; places = f .places }
+
+-- the same, with other places
+abbrev pub withPlaces : Force → List Place → Force
+withPlaces f places =
+    record { message = f .message; submessage = f .submessage; local = f .local; places = places }
+
 -- a section comes in force at its place: it replaces the one of its number, and no other; an end
 -- section is never in force
 unfoldable pub inForce : Force → ℕ → Place → Force
 inForce f number here =
-    pick (eqb number (kinds.localUse .number))
-    (record {
-      message = f .message;
-      submessage = f .submessage;
-      local = At here;
-      places = f .places;
-    })
-    (pick (ltb number (kinds.endSection .number))
-    (record {
-      message = f .message;
-      submessage = f .submessage;
-      local = f .local;
-      places = set (f .places) number here;
-    })
+    pick (eqb number (kinds.localUse .number)) (withLocal f (At here))
+    (pick (ltb number (kinds.endSection .number)) (withPlaces f (set (f .places) number here))
     f)
 
 -- the next submessage of the same message, where all stays in force
