@@ -21,8 +21,8 @@ use Rattle.sections.specs.Kinds.{
   endSection,
   leastPayloadOf,
 }
-use Rattle.sections.specs.declared.kinds.LeastPayload.{LeastPayload}
-use Rattle.sections.specs.declared.kinds.LeastPayload.the-variants.{Octets, NoHeader}
+use Rattle.sections.specs.declared.kinds.LeastOf.{LeastOf}
+use Rattle.sections.specs.declared.kinds.LeastOf.the-variants.{Octets, NoHeader}
 use Rattle.framing.specs.Search.{saysMark, nextStart}
 use Rattle.framing.specs.declared.search.Found.{Found}
 use Rattle.framing.specs.declared.search.Found.the-variants.{At, Nowhere}
@@ -78,7 +78,7 @@ isCut number len left =
     && (ltb left len || (eqb number (bitMap .number) && ltb left (headerSize + leastBitMap)))
 
 -- a section behind its header, of a kind with this least payload: 7, 2 (payload), 8, 9
-unfoldable pub payloadAt : LeastPayload → ℕ → ℕ → ℕ → ℕ → ℕ → Read
+unfoldable pub payloadAt : LeastOf → ℕ → ℕ → ℕ → ℕ → ℕ → Read
 payloadAt NoHeader at number len left rest = refusedAt (UnknownNumber number) at
 payloadAt (Octets least) at number len left rest =
     pick (isCut number len left) (refusedAt Cut at)

@@ -16,7 +16,7 @@ use sections::DataSection;
 use sections::EndSection;
 use sections::HEADER_SIZE;
 use sections::Indicator;
-use sections::LeastPayload;
+use sections::LeastOf;
 use sections::least_payload_of;
 
 // An octet of the file, counted from 0. A section's place in the list is another quantity.
@@ -193,7 +193,7 @@ fn payload_at(at: usize, number: u8, length: u32, left: usize, rest: u64) -> Fra
     ensures { λ r. ⌜ r ≡ framed (payloadAt (leastPayloadOf number) at number length left rest) ⌝ }
 {
     let known = least_payload_of(number as u64);
-    let LeastPayload::Octets(least) = known else {
+    let LeastOf::Octets(least) = known else {
         return refuse(Fault::UnknownNumber(number as u64), at);
     };
     if is_cut(number as u64, length, left) {

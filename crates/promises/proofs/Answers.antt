@@ -12,13 +12,10 @@ use Rattle.octets.proofs as octets
 use Rattle.sections.proofs as sections
 use Rattle.sections.proofs.indicator.Indicator as Indicator
 use Rattle.sections.proofs.identification.Identification as Identification
-use Rattle.sections.proofs.unread.LocalUse as LocalUse
 use Rattle.sections.proofs.grid_definition.GridDefinition as GridDefinition
 use Rattle.sections.proofs.prod_definition.ProdDefinition as ProdDefinition
 use Rattle.sections.proofs.repr_definition.ReprDefinition as ReprDefinition
 use Rattle.sections.proofs.bit_map.BitMap as BitMap
-use Rattle.sections.proofs.unread.DataSection as DataSection
-use Rattle.sections.proofs.unread.EndSection as EndSection
 use Rattle.products.proofs as products
 use Rattle.framing.proofs as framing
 use Rattle.order.proofs as order
@@ -68,40 +65,6 @@ module _ {M : Type 1} where
   octets-sign-and-size = told _ _ _ _ _ octets.sign_and_size.Met.met (λ n. refl) (λ n. _) (λ n r e. id⊢ (n .memory) _)
 
   -- sections: the kinds, and the decoded fields
-  pub Indicator-kind : Promise Indicator.kind.ended {M = M} Indicator.kind.clauses Indicator.kind.Symbol.routine
-  Indicator-kind = told _ _ _ _ _ Indicator.kind.Met.met (λ n. refl) (λ n. _) (λ n r e. id⊢ (n .memory) _)
-
-  pub Identification-kind :
-      Promise Identification.kind.ended {M = M} Identification.kind.clauses Identification.kind.Symbol.routine
-  Identification-kind = told _ _ _ _ _ Identification.kind.Met.met (λ n. refl) (λ n. _) (λ n r e. id⊢ (n .memory) _)
-
-  pub LocalUse-kind : Promise LocalUse.kind.ended {M = M} LocalUse.kind.clauses LocalUse.kind.Symbol.routine
-  LocalUse-kind = told _ _ _ _ _ LocalUse.kind.Met.met (λ n. refl) (λ n. _) (λ n r e. id⊢ (n .memory) _)
-
-  pub GridDefinition-kind :
-      Promise GridDefinition.kind.ended {M = M} GridDefinition.kind.clauses GridDefinition.kind.Symbol.routine
-  GridDefinition-kind = told _ _ _ _ _ GridDefinition.kind.Met.met (λ n. refl) (λ n. _) (λ n r e. id⊢ (n .memory) _)
-
-  pub ProdDefinition-kind :
-      Promise ProdDefinition.kind.ended {M = M} ProdDefinition.kind.clauses ProdDefinition.kind.Symbol.routine
-  ProdDefinition-kind = told _ _ _ _ _ ProdDefinition.kind.Met.met (λ n. refl) (λ n. _) (λ n r e. id⊢ (n .memory) _)
-
-  pub ReprDefinition-kind :
-      Promise ReprDefinition.kind.ended {M = M} ReprDefinition.kind.clauses ReprDefinition.kind.Symbol.routine
-  ReprDefinition-kind = told _ _ _ _ _ ReprDefinition.kind.Met.met (λ n. refl) (λ n. _) (λ n r e. id⊢ (n .memory) _)
-
-  pub BitMap-kind : Promise BitMap.kind.ended {M = M} BitMap.kind.clauses BitMap.kind.Symbol.routine
-  BitMap-kind = told _ _ _ _ _ BitMap.kind.Met.met (λ n. refl) (λ n. _) (λ n r e. id⊢ (n .memory) _)
-
-  pub DataSection-kind : Promise DataSection.kind.ended {M = M} DataSection.kind.clauses DataSection.kind.Symbol.routine
-  DataSection-kind = told _ _ _ _ _ DataSection.kind.Met.met (λ n. refl) (λ n. _) (λ n r e. id⊢ (n .memory) _)
-
-  pub EndSection-kind : Promise EndSection.kind.ended {M = M} EndSection.kind.clauses EndSection.kind.Symbol.routine
-  EndSection-kind = told _ _ _ _ _ EndSection.kind.Met.met (λ n. refl) (λ n. _) (λ n r e. id⊢ (n .memory) _)
-
-  pub sections-kind-of : Promise sections.kind_of.ended {M = M} sections.kind_of.clauses sections.kind_of.Symbol.routine
-  sections-kind-of = told _ _ _ _ _ sections.kind_of.Met.met (λ n. refl) (λ n. _) (λ n r e. id⊢ (n .memory) _)
-
   pub sections-least-payload-of :
       Promise sections.least_payload_of.ended {M = M} sections.least_payload_of.clauses sections.least_payload_of.Symbol.routine
   sections-least-payload-of = told _ _ _ _ _ sections.least_payload_of.Met.met (λ n. refl) (λ n. _) (λ n r e. id⊢ (n .memory) _)
@@ -160,7 +123,7 @@ module _ {M : Type 1} where
   pub order-judge-all : Promise order.judge_all.ended {M = M} order.judge_all.clauses order.judge_all.Symbol.routine
   order-judge-all = told _ _ _ _ _ order.judge_all.Met.met (λ n. refl) (λ n. _) (λ n r e. id⊢ (n .memory) _)
 
-  -- lines: what is in force, and a submessage's line
+  -- index: what is in force, a submessage's line, and document 01's numbers
   pub index-opened : Promise index.opened.ended {M = M} index.opened.clauses index.opened.Symbol.routine
   index-opened = told _ _ _ _ _ index.opened.Met.met (λ n. refl) (λ n. _) (λ n r e. id⊢ (n .memory) _)
 
@@ -247,7 +210,7 @@ module _ {M : Type 1} where
   pub writer-write-end : Promise writer.write_end.ended {M = M} writer.write_end.clauses writer.write_end.Symbol.routine
   writer-write-end = told _ _ _ _ _ writer.write_end.Met.met (λ n. refl) (λ n. _) (λ n r e. id⊢ (n .memory) _)
 
-  -- numbered: the answer and both tables of numbers
+  -- walk in numbers: the answer and both tables of numbers
   pub walk-walk-numbers :
       Promised walk.walk_numbers.ended {M = M} walk.walk_numbers.clauses walk.walk_numbers.Symbol.routine
       (λ κs. WalkAnswer × (List ℕ × List ℕ)) (λ κs r e. (r, (now (e .1 .0), now (e .1 .1 .0))))

@@ -10,15 +10,15 @@ use lib.ListN.{length, getD}
 use borrow.Author.Tests.{eqb-true, lt-leb, le-ltb, eq-eqb, ne-eqb}
 use Rattle.octets.specs.BigEndian.{beAt}
 use Rattle.sections.specs.Kinds.{leastPayloadOf, kindOf, kinds}
-use Rattle.sections.specs.declared.kinds.LeastPayload.{LeastPayload}
-use Rattle.sections.specs.declared.kinds.LeastPayload.the-variants.{Octets, NoHeader}
+use Rattle.sections.specs.declared.kinds.LeastOf.{LeastOf}
+use Rattle.sections.specs.declared.kinds.LeastOf.the-variants.{Octets, NoHeader}
 use Rattle.framing.specs.Search.{says}
 use Rattle.framing.specs.Framing.{sectionAt, endAt, isCut, payloadAt, headerAt, readAt}
 use Rattle.framing.specs.Read.{Read}
 use Rattle.framing.proofs.Tests.{by-test}
 
 -- the octets of a least payload
-octetsOf : LeastPayload → ℕ
+octetsOf : LeastOf → ℕ
 octetsOf (Octets n) = n
 octetsOf NoHeader = 0
 

@@ -11,8 +11,8 @@ use lib.ListN.{length}
 use borrow.Author.Tests.{ltb-true}
 use Rattle.octets.specs.Words.{pick, Iff}
 use Rattle.sections.specs.Kinds.{leastPayloadOf}
-use Rattle.sections.specs.declared.kinds.LeastPayload.{LeastPayload}
-use Rattle.sections.specs.declared.kinds.LeastPayload.the-variants.{Octets, NoHeader}
+use Rattle.sections.specs.declared.kinds.LeastOf.{LeastOf}
+use Rattle.sections.specs.declared.kinds.LeastOf.the-variants.{Octets, NoHeader}
 use Rattle.writer.specs.Plan.{Part, noFault, faultAt, planPlace, firstAt, isOutside, isWrongSize}
 use Rattle.writer.proofs.Checks.{not-passed, same-place, inside-is, sized-is, not-long}
 use Rattle.round_trip.specs.Faults.{partAt, FirstAt, AtNone, Outside, WrongSize}
@@ -118,7 +118,7 @@ wrong-is part = go (leastPayloadOf (part .number)) refl
     either true e = inl refl
     either false e = inr e
 
-    go : (known : LeastPayload) → leastPayloadOf (part .number) ≡ known → isWrongSize part ≡ true → WrongSize part
+    go : (known : LeastOf) → leastPayloadOf (part .number) ≡ known → isWrongSize part ≡ true → WrongSize part
     go (Octets least) kind e =
         ⊎-elim
         (λ short. inl (record { least = least; of-kind = kind; under = ltb-true _ _ short }))

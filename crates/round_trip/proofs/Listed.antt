@@ -11,7 +11,7 @@ use lib.Seq.{getD-append-add, getD-at}
 use borrow.Author.Tests.{eqb-true, le-ltb, le-leb, lt-leb, ne-eqb}
 use Rattle.octets.specs.BigEndian.{beAt}
 use Rattle.sections.specs.Kinds.{leastPayloadOf, kindOf, kinds}
-use Rattle.sections.specs.declared.kinds.LeastPayload.the-variants.{Octets}
+use Rattle.sections.specs.declared.kinds.LeastOf.the-variants.{Octets}
 use Rattle.framing.specs.Search.{says, startsAt, startAmong, nextStart}
 use Rattle.framing.specs.Framing.{sectionAt as sectionAt, indicatorAt, endAt, isCut, payloadAt, headerAt, messageAt, readAt}
 use Rattle.framing.specs.Listing.{over, listing}

@@ -5,7 +5,7 @@ use mathlib.Core.List.{List, [], _∷_}
 use mathlib.Core.Logic.{_⊎_}
 use lib.ListN.{length, take, getD}
 use Rattle.sections.specs.Kinds.{leastPayloadOf}
-use Rattle.sections.specs.declared.kinds.LeastPayload.the-variants.{Octets}
+use Rattle.sections.specs.declared.kinds.LeastOf.the-variants.{Octets}
 use Rattle.order.specs.Order.{judged}
 use Rattle.order.specs.declared.Order.{Order}
 use Rattle.order.specs.declared.Order.the-variants.{AfterIndicator}

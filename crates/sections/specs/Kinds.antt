@@ -11,8 +11,8 @@ use Rattle.sections.specs.declared.kinds.Values.the-variants.{FromOctet,
 use Rattle.sections.specs.declared.kinds.Kind.{Kind}
 use Rattle.sections.specs.declared.kinds.MaybeKind.{MaybeKind}
 use Rattle.sections.specs.declared.kinds.MaybeKind.the-variants.{Known, Unknown}
-use Rattle.sections.specs.declared.kinds.LeastPayload.{LeastPayload as LeastOf}
-use Rattle.sections.specs.declared.kinds.LeastPayload.the-variants.{Octets, NoHeader}
+use Rattle.sections.specs.declared.kinds.LeastOf.{LeastOf}
+use Rattle.sections.specs.declared.kinds.LeastOf.the-variants.{Octets, NoHeader}
 
 -- the octets of a header: a length of four, and a number
 abbrev pub headerSize : ℕ

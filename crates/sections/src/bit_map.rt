@@ -23,7 +23,7 @@ impl BitMap {
 
     pub const FIRST_VALUES_OCTET: usize = 7;
 
-    pub fn kind() -> Kind
+    pub(crate) fn kind() -> Kind
         ensures { λ r. ⌜ r ≡ bitMap ⌝ }
     {
         Kind {

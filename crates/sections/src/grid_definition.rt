@@ -25,7 +25,7 @@ impl GridDefinition {
 
     pub const LEAST_PAYLOAD: usize = 9;
 
-    pub fn kind() -> Kind
+    pub(crate) fn kind() -> Kind
         ensures { λ r. ⌜ r ≡ gridDefinition ⌝ }
     {
         Kind {

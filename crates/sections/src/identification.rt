@@ -40,7 +40,7 @@ impl Identification {
 
     pub const LEAST_PAYLOAD: usize = 16;
 
-    pub fn kind() -> Kind
+    pub(crate) fn kind() -> Kind
         ensures { λ r. ⌜ r ≡ identification ⌝ }
     {
         Kind {

@@ -27,7 +27,7 @@ impl Indicator {
     // The edition that is read.
     pub const EDITION: u8 = 2;
 
-    pub fn kind() -> Kind
+    pub(crate) fn kind() -> Kind
         ensures { λ r. ⌜ r ≡ indicator ⌝ }
     {
         Kind {

@@ -41,13 +41,13 @@ pub enum MaybeKind {
 }
 
 // The least payload of a section that stands behind a header.
-pub enum LeastPayload {
+pub enum LeastOf {
     Octets(usize),
     NoHeader,
 }
 
 // The kind that has this section number.
-pub fn kind_of(number: u64) -> MaybeKind
+pub(crate) fn kind_of(number: u64) -> MaybeKind
     ensures { λ r. ⌜ r ≡ kindOf number ⌝ }
 {
     match number {
@@ -65,16 +65,16 @@ pub fn kind_of(number: u64) -> MaybeKind
 }
 
 // The least payload of the sections that have this number, if they have a header.
-pub fn least_payload_of(number: u64) -> LeastPayload
+pub fn least_payload_of(number: u64) -> LeastOf
     ensures { λ r. ⌜ r ≡ leastPayloadOf number ⌝ }
 {
     let MaybeKind::Known(kind) = kind_of(number) else {
-        return LeastPayload::NoHeader;
+        return LeastOf::NoHeader;
     };
     let extent = kind.extent;
     match extent {
-        Extent::LeastPayload(octets) => LeastPayload::Octets(octets),
-        Extent::WholeSize(_) => LeastPayload::NoHeader,
+        Extent::LeastPayload(octets) => LeastOf::Octets(octets),
+        Extent::WholeSize(_) => LeastOf::NoHeader,
     }
 }
 

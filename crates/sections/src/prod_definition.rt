@@ -25,7 +25,7 @@ impl ProdDefinition {
 
     pub const LEAST_PAYLOAD: usize = 4;
 
-    pub fn kind() -> Kind
+    pub(crate) fn kind() -> Kind
         ensures { λ r. ⌜ r ≡ prodDefinition ⌝ }
     {
         Kind {

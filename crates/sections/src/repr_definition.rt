@@ -27,7 +27,7 @@ impl ReprDefinition {
 
     pub const FIRST_VALUES_OCTET: usize = 12;
 
-    pub fn kind() -> Kind
+    pub(crate) fn kind() -> Kind
         ensures { λ r. ⌜ r ≡ reprDefinition ⌝ }
     {
         Kind {

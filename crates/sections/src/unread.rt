@@ -15,7 +15,7 @@ impl LocalUse {
 
     pub const FIRST_VALUES_OCTET: usize = 6;
 
-    pub fn kind() -> Kind
+    pub(crate) fn kind() -> Kind
         ensures { λ r. ⌜ r ≡ localUse ⌝ }
     {
         Kind {
@@ -36,7 +36,7 @@ impl DataSection {
 
     pub const FIRST_VALUES_OCTET: usize = 6;
 
-    pub fn kind() -> Kind
+    pub(crate) fn kind() -> Kind
         ensures { λ r. ⌜ r ≡ dataSection ⌝ }
     {
         Kind {
@@ -55,7 +55,7 @@ impl EndSection {
 
     pub const WHOLE_SIZE: usize = 4;
 
-    pub fn kind() -> Kind
+    pub(crate) fn kind() -> Kind
         ensures { λ r. ⌜ r ≡ endSection ⌝ }
     {
         Kind {

@@ -10,8 +10,8 @@ use lib.ListN.{length}
 use borrow.Author.Tests.{ltb-true, ltb-false, leb-true, leb-false, eqb-true, eqb-false, eq-eqb, ne-eqb}
 use Rattle.octets.specs.Words.{Not}
 use Rattle.sections.specs.Kinds.{leastPayloadOf, leastIn, kindOf, kinds}
-use Rattle.sections.specs.declared.kinds.LeastPayload.{LeastPayload}
-use Rattle.sections.specs.declared.kinds.LeastPayload.the-variants.{Octets, NoHeader}
+use Rattle.sections.specs.declared.kinds.LeastOf.{LeastOf}
+use Rattle.sections.specs.declared.kinds.LeastOf.the-variants.{Octets, NoHeader}
 use Rattle.sections.specs.declared.kinds.MaybeKind.{MaybeKind}
 use Rattle.framing.specs.Search.{says, IsNextStart, nextStart}
 use Rattle.framing.specs.Framing.{refusedAt, indicatorAt, endAt, isCut, payloadAt, headerAt, messageAt, readAt}
@@ -101,7 +101,7 @@ module _ (file : List ℕ) (at rest : ℕ) where
   same-offset o o′ p q = in-hand (both _ _ p q) (λ here rows so. so .0 .0 ∙ sym (so .1 .0))
 
 -- the sections with a header are 1 to 7
-data Headed (n : ℕ) : LeastPayload → Type 0 where
+data Headed (n : ℕ) : LeastOf → Type 0 where
   headed : {least : ℕ} → 1 ≤ n → n ≤ 7 → Headed n (Octets least)
   bare : Not ((1 ≤ n) × (n ≤ 7)) → Headed n NoHeader
 
@@ -237,7 +237,7 @@ module _ (file : List ℕ) (at rest : ℕ) where
       refuses-here : (fault : Fault) → FirstRow (rowsBehindHeader file at rest) (faultNumber fault) (faultDetail fault) → T (refusedAt fault at)
       refuses-here fault first = refuses (behindHeader within not-last inside (refl, first))
 
-      tells-payload : (least : LeastPayload) → leastPayloadOf (numberThere file at) ≡ least → Headed (numberThere file at) least
+      tells-payload : (least : LeastOf) → leastPayloadOf (numberThere file at) ≡ least → Headed (numberThere file at) least
           → 5 ≤ left file at → 5 ≤ len file at
           → T (payloadAt least at (numberThere file at) (len file at) (left file at) rest)
       unfolding payloadAt faultNumber faultDetail

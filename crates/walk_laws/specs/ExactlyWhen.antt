@@ -9,8 +9,8 @@ use lib.ListN.{length, getD}
 use Rattle.octets.specs.Words.{Not, Iff}
 use Rattle.octets.specs.BigEndian.{beAt}
 use Rattle.sections.specs.Kinds.{leastPayloadOf}
-use Rattle.sections.specs.declared.kinds.LeastPayload.{LeastPayload}
-use Rattle.sections.specs.declared.kinds.LeastPayload.the-variants.{Octets, NoHeader}
+use Rattle.sections.specs.declared.kinds.LeastOf.{LeastOf}
+use Rattle.sections.specs.declared.kinds.LeastOf.the-variants.{Octets, NoHeader}
 use Rattle.framing.specs.Search.{IsNextStart}
 use Rattle.framing.specs.Framing.{readAt, refusedAt}
 use Rattle.framing.specs.declared.search.Found.the-variants.{At, Nowhere}
@@ -120,7 +120,7 @@ PayloadCut file at =
     ⊎ ((numberThere file at ≡ 6) × (len file at ≡ 5) × (left file at ≡ 5)))
 
 -- 8: payload under its least
-abbrev pub Under : LeastPayload → ℕ → Type 0
+abbrev pub Under : LeastOf → ℕ → Type 0
 Under (Octets least) size = size < least
 Under NoHeader size = ⊥
 

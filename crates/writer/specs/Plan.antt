@@ -7,8 +7,8 @@ use lib.Dec.{ltb}
 use lib.ListN.{length}
 use Rattle.octets.specs.Words.{pick}
 use Rattle.sections.specs.Kinds.{headerSize, indicatorSize, endSize, endSection, leastPayloadOf}
-use Rattle.sections.specs.declared.kinds.LeastPayload.{LeastPayload}
-use Rattle.sections.specs.declared.kinds.LeastPayload.the-variants.{Octets, NoHeader}
+use Rattle.sections.specs.declared.kinds.LeastOf.{LeastOf}
+use Rattle.sections.specs.declared.kinds.LeastOf.the-variants.{Octets, NoHeader}
 use Rattle.order.specs.Order.{judged}
 use Rattle.order.specs.declared.Order.{Order}
 use Rattle.order.specs.declared.Order.the-variants.{AfterIndicator}
@@ -101,7 +101,7 @@ isOutside store part = ltb store (part .offset + part .length)
 
 -- a payload under its kind's least; false where the number has no least: 16 comes first, so that no
 -- such number is left
-abbrev pub underLeast : LeastPayload → ℕ → Bool
+abbrev pub underLeast : LeastOf → ℕ → Bool
 underLeast (Octets least) octets = ltb octets least
 underLeast NoHeader octets = false
 

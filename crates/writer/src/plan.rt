@@ -16,7 +16,7 @@ use order::judge;
 use sections::EndSection;
 use sections::HEADER_SIZE;
 use sections::Indicator;
-use sections::LeastPayload;
+use sections::LeastOf;
 use sections::least_payload_of;
 
 // A section takes three numbers of a plan; one or two left over are no section.
@@ -88,7 +88,7 @@ fn is_wrong_size(number: u64, octets: u64) -> bool
         return true;
     }
     let known = least_payload_of(number);
-    let LeastPayload::Octets(least) = known else {
+    let LeastOf::Octets(least) = known else {
         return false;
     };
     octets < least as u64
