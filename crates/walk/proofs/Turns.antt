@@ -1,14 +1,14 @@
--- A turn of the walk: a section that it passes had room for its row, and from tables as they are kept it makes tables as they are kept, or
--- it ends the walk as the walk is meant to end.
-use mathlib.Core.Path.{_≡_, refl, sym, ap, _∙_}
+-- A turn of the walk, and a step of several: from tables as they are kept they make tables as they are kept, or they end the walk as the walk is
+-- meant to end.
+use mathlib.Core.Path.{_≡_, refl, sym, ap, subst, _∙_}
 use mathlib.Core.Bool.{true, false}
 use mathlib.Core.List.{List, [], _∷_}
-use Prim.Native.Nat.{ℕ, suc, _+_, _-_, _*_, _/_, _^_, _≤_, _<_}
+use Prim.Native.Nat.{ℕ, zero, suc, _+_, _-_, _*_, _/_, _^_, _≤_, _<_}
 use native.Mathlib.Nat.{mul-one}
 use native.Mathlib.Omega.{arith}
 use lib.Dec.{ltb, leb}
 use lib.ListN.{length}
-use borrow.Author.Tests.{lt-ltb, leb-true, leb-false, ltb-true, ltb-false}
+use borrow.Author.Tests.{leb-true, leb-false, ltb-true, ltb-false}
 use Rattle.octets.specs.Words.{pick}
 use Rattle.framing.specs.declared.read.Section.{Section}
 use Rattle.framing.specs.declared.read.Cursor.{Cursor}
@@ -34,6 +34,7 @@ use Rattle.walk.specs.Turns.{
   linesAfter,
   oneMore,
   freshOf,
+  standingOf,
   endedOf,
   refusedOf,
   toldOf,
@@ -45,47 +46,22 @@ use Rattle.walk.specs.Turns.{
   misplacedOf,
   bySeen,
   turnOf,
+  rowOnly,
+  onward,
+  Stepped,
+  stepsOf,
   stepOf,
   begunOf,
   concludedOf,
 }
+use Rattle.walk.specs.declared.lines.Only.{Only}
+use Rattle.walk.specs.declared.lines.Only.the-variants.{Row, More}
 use Rattle.walk.specs.declared.tally.Tally.{Tally}
 use Rattle.walk.specs.Put.{putAt}
 use Rattle.walk.proofs.Put.{put-one}
+use Rattle.walk.proofs.Steps.{more, row-turn}
 use Rattle.walk.proofs.Lent as lent
 use Rattle.walk.proofs.Lent.{encoded, Out, result}
-
--- what a section that is passed had room for
-module _ (room : Room) where
-  abbrev InRoom : Tally → Type 0
-  InRoom t = t .passed ≡ true → t .last .place .0 < room .rows
-
-  fitted-room : (t : Tally) (s : Section) (next : Reading) → t .passed ≡ false → InRoom (fittedOf room t s next)
-  unfolding fittedOf
-  fitted-room t s next none =
-      by-test InRoom (leb (room .rows) (t .sections)) (λ e p. absurd (never-both p none)) λ e p. leb-false (room .rows) (t .sections) e
-
-  seen-room : (v : Seen) (t : Tally) → t .passed ≡ false → InRoom (bySeen v room t)
-  unfolding bySeen takenOf closedOf misplacedOf
-  seen-room (Passes s next) t none =
-      by-test InRoom (completes (t .reading .order) (s .number))
-      (λ c. by-test InRoom (leb (room .lines) (t .lines)) (λ e p. absurd (never-both p none)) λ e. fitted-room (toldOf t) s next none)
-      λ c. fitted-room t s next none
-  seen-room (Closes s next) t none =
-      by-test InRoom (leb (room .rows) (t .sections)) (λ e p. absurd (never-both p none)) λ e.
-      by-test InRoom (leb (room .lines) (t .lines)) (λ f p. absurd (never-both p none)) λ f p. leb-false (room .rows) (t .sections) e
-  seen-room (Misplaced s) t none =
-      by-test InRoom (completes (t .reading .order) (s .number))
-      (λ c. by-test InRoom (leb (room .lines) (t .lines)) (λ e p. absurd (never-both p none)) λ e p. absurd (never-both p none))
-      λ c p. absurd (never-both p none)
-  seen-room (NoGrid s) t none = λ p. absurd (never-both p none)
-  seen-room Clean t none = λ p. absurd (never-both p none)
-  seen-room InputOver t none = λ p. absurd (never-both p none)
-  seen-room (Unreadable fault offset) t none = λ p. absurd (never-both p none)
-
-  pub has-room : (file : List ℕ) (t : Tally) → InRoom (turnOf file room t)
-  unfolding turnOf
-  has-room file t = seen-room (seen file (t .reading)) (freshOf t) refl
 
 -- a line is one element of its table
 abbrev pub one : Line → List Line
@@ -101,11 +77,6 @@ same-lines : (lines : List Line) → encoded 1 one wide lines ≡ lines
 unfolding encoded
 same-lines [] = refl
 same-lines (l ∷ more) = ap (λ (rest : List Line). l ∷ rest) (same-lines more)
-
--- a count below the end has one more
-more : (n : ℕ) → n < 18446744073709551615 → oneMore n ≡ n + 1
-unfolding oneMore
-more n below = simp (lt-ltb n 18446744073709551615 below)
 
 -- the tables after a turn
 row-none : (s : Listed) (rows : List ℕ) → rowsAfter false s rows ≡ rows
@@ -311,10 +282,60 @@ module _ (file rows₀ : List ℕ) (lines₀ : List Line) where
     turns-by InputOver e = ends _ (lent.input-over 1 one wide file rows₀ lines₀ (length lines₀) (enough lines₀) kept e)
     turns-by (Unreadable fault offset) e = ends _ (lent.unreadable 1 one wide file rows₀ lines₀ (length lines₀) (enough lines₀) kept e)
 
+    turned : After (turnOf file room t)
+    unfolding turnOf
+    turned = turns-by (seen file (t .reading)) refl
+
+  -- turns of which a row is all that comes, and the one behind them
+  module _ (fits₁ : length rows₀ < 2 ^ 64) (fits₂ : length lines₀ < 2 ^ 64) (lines : List Line) where
+    abbrev within : Room
+    within = roomOf (length rows₀) (length lines₀)
+
+    -- what they leave: tables as they are held, and less to read
+    pub record Left (t : Tally) (o : Stepped) : Type 0 where
+      pub held : Held (o .tally) (o .rows) (linesAfter (o .tally .due) (o .tally .slot) (o .tally .line) lines)
+      pub less : o .tally .going ≡ true
+          → (t .reading .cursor .at .0 < length file) × (t .reading .cursor .at .0 < o .tally .reading .cursor .at .0)
+
+    abbrev Lefts : ℕ → Type 0
+    Lefts most = (t : Tally) (rows : List ℕ) → t .going ≡ true → Kept (reachedOf t) (t .reading .cursor) rows lines
+        → length file - t .reading .cursor .at .0 < most → Left t (stepsOf file within most t rows)
+
+    one-turn : (most : ℕ) → Lefts most → Lefts (suc most)
+    unfolding stepsOf
+    one-turn most rest t rows going kept less = by-only (rowOnly within (standingOf t) (seen file (t .reading))) refl
+      where
+        u : Tally
+        u = turnOf file within t
+
+        stored : List ℕ
+        stored = rowsAfter (u .passed) (u .last) rows
+
+        after : After fits₁ fits₂ t rows lines going kept u
+        after = turned fits₁ fits₂ t rows lines going kept
+
+        by-only : (o : Only) → rowOnly within (standingOf t) (seen file (t .reading)) ≡ o
+            → Left t (onward o (stepsOf file within most (freshOf u) stored) (record { tally = u; rows = stored }))
+        by-only More e = record { held = after .held; less = after .less }
+        by-only (Row s next) e =
+            let is = row-turn file within t e in
+            let on : u .going ≡ true = ap (λ (x : Tally). x .going) is ∙ going in
+            let none : linesAfter (u .due) (u .slot) (u .line) lines ≡ lines
+            = ap (λ (x : Tally). linesAfter (x .due) (u .slot) (u .line) lines) is ∙ line-none (u .slot) (u .line) lines in
+            let kept′ = subst (Kept (reachedOf u) (u .reading .cursor) stored) none (after .held .on on) in
+            let moved = after .less on in
+            let left = rest (freshOf u) stored on kept′ (omega (arith, less, moved .0, moved .1)) in
+            record { held = left .held; less = λ g. let later = left .less g in (moved .0, omega (arith, moved .1, later .1)) }
+
+    steps : (most : ℕ) → Lefts most
+    steps zero = λ t rows going kept less. absurd (omega (arith, less))
+    steps (suc most) = one-turn most (steps most)
+
     -- the step, with the tables as long as they are
-    pub turned : After (stepOf file (length rows) (length lines) t)
-    unfolding stepOf turnOf
-    turned = rw (kept .same-rows, kept .same-lines) (turns-by (seen file (t .reading)) refl)
+    pub stepped : (t : Tally) (rows : List ℕ) → t .going ≡ true → Kept (reachedOf t) (t .reading .cursor) rows lines
+        → Left t (stepOf file (length lines) t rows)
+    unfolding stepOf
+    stepped t rows going kept = rw (kept .same-rows, kept .same-lines) (steps (suc (length file)) t rows going kept (omega arith))
 
 -- turns that are left, at most; each turn makes them fewer
 abbrev pub leftOf : List ℕ → Tally → ℕ

@@ -1,4 +1,4 @@
--- Machinery: where the walk in numbers stands, and its answers.
+-- Machinery: where a walk stands, and the answers of the walk in numbers.
 use Prim.Native.Nat.{ℕ, _+_, _*_, _/_}
 use mathlib.Core.List.{List}
 use lib.Dec.{leb}

@@ -1,14 +1,17 @@
--- Machinery: a turn of the loop that fills the lent tables, over what is seen at the reading.
-use Prim.Native.Nat.{ℕ, _+_, _*_}
+-- Machinery: a turn of the loop that fills the lent tables, over what is seen at the reading, and
+-- the turns of a step.
+use Prim.Native.Nat.{ℕ, zero, suc, _+_, _*_}
 use mathlib.Core.Bool.{Bool, true, false}
 use mathlib.Core.List.{List}
 use lib.Dec.{ltb, leb}
-use lib.ListN.{set}
+use lib.ListN.{length, set}
 use Rattle.octets.specs.Words.{pick}
 use Rattle.framing.specs.declared.read.Section.{Section}
 use Rattle.order.specs.Order.{completes}
+use Rattle.order.specs.declared.Place.{Place}
 use Rattle.index.specs.Lines.{place, opened, inForce, withSubmessage, lineOf}
 use Rattle.index.specs.declared.line.Line.{Line}
+use Rattle.index.specs.declared.line.LocalUsePlace.{LocalUsePlace}
 use Rattle.index.specs.declared.refusal.Refusal.{Refusal}
 use Rattle.index.specs.declared.refusal.Refusal.the-variants as refusal
 use Rattle.index.specs.declared.refusal.Outcome.{Outcome}
@@ -30,7 +33,11 @@ use Rattle.reading.specs.declared.Seen.the-variants.{
   Unreadable,
 }
 use Rattle.walk.specs.declared.lines.Answer.{Answer}
+use Rattle.walk.specs.declared.lines.Only.{Only}
+use Rattle.walk.specs.declared.lines.Only.the-variants.{Row, More}
+use Rattle.walk.specs.declared.standing.Standing.{Standing}
 use Rattle.walk.specs.declared.tally.Tally.{Tally}
+use Rattle.walk.specs.Standing.{forceIn}
 use Rattle.walk.specs.Put.{putAt, rowOf}
 use Rattle.walk.specs.Tables.{roomOf}
 
@@ -76,6 +83,35 @@ freshOf t =
       lines = t .lines;
       force = t .force;
       last = t .last;
+      passed = false;
+      due = false;
+      slot = t .slot;
+      line = t .line;
+      going = t .going;
+      outcome = t .outcome;
+    }
+
+-- where a walk stands
+abbrev pub standingOf : Tally → Standing
+standingOf t =
+    record {
+      reading = t .reading;
+      sections = t .sections;
+      lines = t .lines;
+      message = t .force .message;
+      submessage = t .force .submessage;
+      last = t .last;
+    }
+
+-- a turn begins where a walk stands now, with this in force: nothing is due yet
+abbrev pub resumedOf : Tally → Standing → LocalUsePlace → List Place → Tally
+resumedOf t at local places =
+    record {
+      reading = at .reading;
+      sections = at .sections;
+      lines = at .lines;
+      force = forceIn at local places;
+      last = at .last;
       passed = false;
       due = false;
       slot = t .slot;
@@ -200,9 +236,40 @@ bySeen (Unreadable fault offset) room t =
 unfoldable pub turnOf : List ℕ → Room → Tally → Tally
 turnOf file room t = bySeen (seen file (t .reading)) room (freshOf t)
 
--- .. with tables of so many numbers and lines
-unfoldable pub stepOf : List ℕ → ℕ → ℕ → Tally → Tally
-stepOf file numbers lines t = turnOf file (roomOf numbers lines) t
+-- whether a row is all that comes of what is seen: with room for it, and no submessage completed
+unfoldable pub rowOnly : Room → Standing → Seen → Only
+rowOnly room at (Passes s next) =
+    pick (leb (room .rows) (at .sections)) More
+    (pick (completes (at .reading .order) (s .number)) More (Row s next))
+rowOnly room at (Closes s next) = More
+rowOnly room at (Misplaced s) = More
+rowOnly room at (NoGrid s) = More
+rowOnly room at Clean = More
+rowOnly room at InputOver = More
+rowOnly room at (Unreadable fault offset) = More
+
+-- a tally, and the section table
+pub record Stepped : Type 0 where
+  pub tally : Tally
+  pub rows : List ℕ
+
+abbrev pub onward : Only → Stepped → Stepped → Stepped
+onward (Row s next) on here = on
+onward More on here = here
+
+-- turns as long as a row is all that comes of one, so many at most
+unfoldable pub stepsOf : List ℕ → Room → ℕ → Tally → List ℕ → Stepped
+stepsOf file room zero t rows = record { tally = t; rows = rows }
+stepsOf file room (suc most) t rows =
+    let u = turnOf file room t in
+    let stored = rowsAfter (u .passed) (u .last) rows in
+    onward (rowOnly room (standingOf t) (seen file (t .reading)))
+    (stepsOf file room most (freshOf u) stored)
+    (record { tally = u; rows = stored })
+
+-- .. which are fewer than the file has octets, with room for so many lines
+unfoldable pub stepOf : List ℕ → ℕ → Tally → List ℕ → Stepped
+stepOf file lines t rows = stepsOf file (roomOf (length rows) lines) (suc (length file)) t rows
 
 -- before the first turn: a file is at most 2^40 octets
 unfoldable pub begunOf : ℕ → Tally

@@ -1,7 +1,7 @@
 // The walk of a file (document 01, "Order", "Refusal numbers"; the crate's parser.rs): every
 // section listed, every submessage a line, in tables that the caller lends. `lines` has the walk
 // with lines as structs, over the turns of `tally`; `numbers` the walk with both tables as numbers,
-// as a program in another language lends them, over `standing` and `twelve`. `rows` is for both.
+// as a program in another language lends them, over `twelve`. `rows` and `standing` are for both.
 mod lines;
 mod numbers;
 mod rows;

@@ -4,16 +4,28 @@ ghost use mathlib.Core.Bool.{true};
 ghost use Prim.Native.Nat.{_/_, _<_};
 ghost use lib.ListN.{length};
 ghost use Rattle.walk.specs.Tables.{walkOf};
-ghost use Rattle.walk.specs.Turns.{rowsAfter, linesAfter, stepOf, concludedOf};
+ghost use Rattle.walk.specs.Turns.{rowsAfter, linesAfter, rowOnly, stepOf, concludedOf};
 use crate::rows::ROW;
 use crate::rows::put_row;
+use crate::standing::Standing;
+use crate::standing::completes;
+use crate::standing::passed_row;
 use crate::tally::Tally;
 use crate::tally::begin;
+use crate::tally::resumed;
+use crate::tally::standing_of;
 use crate::tally::turn;
+use framing::Section;
 use index::Line;
 use index::Listed;
+use index::LocalUsePlace;
 use index::Outcome;
 use index::Room;
+use order::Place;
+use reading::Reading;
+use reading::Seen;
+use reading::glance;
+use sections::LocalUse;
 
 // How many lines stand in each table, how many messages were closed, and how the walk ended.
 pub struct Answer {
@@ -35,20 +47,70 @@ fn put_passed(rows: &mut [u64], passed: bool, s: Listed)
     }
 }
 
-// One turn, with the row of the section that it passed stored; the line that is due is left to the
-// caller.
-fn step(file: &[u8], rows: &mut [u64], lines: usize, t: Tally) -> Tally
-    ensures tally { λ r. ⌜ r ≡ stepOf (now (file .entry)) (length (now (rows .entry))) lines t ⌝ }
-    ensures table { λ r. ⌜ now (rows .exit) ≡ rowsAfter (r .passed) (r .last) (rows .entry .now) ⌝ }
+// What is seen: a section that passes, whose row is all that comes of it; or more.
+enum Only {
+    Row(Section, Reading),
+    More,
+}
+
+// A row is all where there is room for it, and no submessage is completed.
+fn row_only(room: Room, at: Standing, seen: Seen) -> Only
+    ensures { λ r. ⌜ r ≡ rowOnly room at seen ⌝ }
+{
+    match seen {
+        Seen::Passes(section, next) => {
+            if room.rows <= at.sections {
+                return Only::More;
+            }
+            if completes(at, section) {
+                return Only::More;
+            }
+            Only::Row(section, next)
+        }
+        _ => Only::More,
+    }
+}
+
+// Turns up to one that may make a line due or end the walk, with the rows of the sections that they
+// passed stored; the line that is due is left to the caller. What a section changes is kept in
+// variables: to hand on the tally, some forty words, at each section would make the walk more than
+// three times as dear.
+fn step(file: &[u8], rows: &mut [u64], lines: usize, before: Tally) -> Tally
+    ensures tally { λ r. ⌜ r
+        ≡ stepOf (now (file .entry)) lines before (now (rows .entry)) .tally ⌝ }
+    ensures table { λ _. ⌜ now (rows .exit)
+        ≡ stepOf (now (file .entry)) lines before (now (rows .entry)) .rows ⌝ }
 {
     let room = Room {
         rows: rows.len() as u64 / ROW as u64,
         lines: lines as u64,
     };
-    let next = turn(file, room, t);
-    let last = next.last;
-    put_passed(rows, next.passed, last);
-    next
+    let force = before.force;
+    let mut at = standing_of(before);
+    let mut local = force.local;
+    let mut places = force.places;
+    loop {
+        let seen = glance(file, at.reading);
+        let only = row_only(room, at, seen);
+        match only {
+            Only::Row(section, next) => {
+                put_row(rows, at.sections, section);
+                let here = Place(at.sections);
+                at = passed_row(at, section, next);
+                if section.number == LocalUse::NUMBER {
+                    local = LocalUsePlace::At(here);
+                } else {
+                    places[section.number as usize] = here;
+                }
+            }
+            Only::More => {
+                let next = turn(room, resumed(before, at, local, places), seen);
+                let last = next.last;
+                put_passed(rows, next.passed, last);
+                return next;
+            }
+        }
+    }
 }
 
 // The answer of a walk that has ended.

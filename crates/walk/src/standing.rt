@@ -1,4 +1,4 @@
-// Where the walk in numbers stands, by value. What is in force is not here: its places are written
+// Where a walk stands, by value. What is in force is not here: its places are written
 // one by one, and a copy of all eight at each section would cost half as much as the rest.
 ghost use mathlib.Core.Path.{_≡_};
 ghost use Prim.Native.Nat.{_<_};

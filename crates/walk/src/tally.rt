@@ -1,14 +1,17 @@
 // A turn of the walk, by value: what is reached, and what is due for the lent tables.
 ghost use mathlib.Core.Path.{_≡_};
 ghost use lib.ListN.{length};
-ghost use Rattle.walk.specs.Turns.{oneMore, unstarted, begunOf, freshOf, endedOf, refusedOf};
-ghost use Rattle.walk.specs.Turns.{toldOf, passedOf, fittedOf, takenOf, closedOf};
-ghost use Rattle.walk.specs.Turns.{misplacedOf, turnOf};
+ghost use Rattle.walk.specs.Turns.{oneMore, unstarted, begunOf, endedOf, refusedOf};
+ghost use Rattle.walk.specs.Turns.{standingOf, resumedOf, toldOf, passedOf, fittedOf};
+ghost use Rattle.walk.specs.Turns.{takenOf, closedOf, misplacedOf, bySeen};
+use crate::standing::KEPT;
+use crate::standing::Standing;
 use framing::Offset;
 use framing::Section;
 use index::Force;
 use index::Line;
 use index::Listed;
+use index::LocalUsePlace;
 use index::MOST_OCTETS;
 use index::Outcome;
 use index::Refusal;
@@ -22,7 +25,6 @@ use order::Place;
 use order::completing;
 use reading::Reading;
 use reading::Seen;
-use reading::glance;
 use reading::start;
 
 pub(crate) struct Tally {
@@ -118,13 +120,49 @@ pub(crate) fn begin(file: &[u8]) -> Tally
     unstarted()
 }
 
-// A turn begins: nothing is due yet.
-fn fresh(mut t: Tally) -> Tally
-    ensures { λ r. ⌜ r ≡ freshOf t ⌝ }
+// Where a walk stands.
+pub(crate) fn standing_of(t: Tally) -> Standing
+    ensures { λ r. ⌜ r ≡ standingOf t ⌝ }
 {
-    t.passed = false;
-    t.due = false;
-    t
+    let reading = t.reading;
+    let force = t.force;
+    let last = t.last;
+    Standing {
+        reading,
+        sections: t.sections,
+        lines: t.lines,
+        message: force.message,
+        submessage: force.submessage,
+        last,
+    }
+}
+
+// A turn begins where a walk stands now, with this in force: nothing is due yet.
+pub(crate) fn resumed(t: Tally, at: Standing, local: LocalUsePlace, places: [Place; KEPT]) -> Tally
+    ensures { λ r. ⌜ r ≡ resumedOf t at local places ⌝ }
+{
+    let reading = at.reading;
+    let last = at.last;
+    let line = t.line;
+    let outcome = t.outcome;
+    Tally {
+        reading,
+        sections: at.sections,
+        lines: at.lines,
+        force: Force {
+            message: at.message,
+            submessage: at.submessage,
+            local,
+            places,
+        },
+        last,
+        passed: false,
+        due: false,
+        slot: t.slot,
+        line,
+        going: t.going,
+        outcome,
+    }
 }
 
 // The submessage in hand is complete, and its message goes on: its line is due.
@@ -225,12 +263,10 @@ fn misplaced(room: Room, t: Tally, stray: Section) -> Tally
     refused(t, Refusal::Misplaced(stray.number), stray)
 }
 
-// One turn, with room for so many rows and lines.
-pub(crate) fn turn(file: &[u8], room: Room, before: Tally) -> Tally
-    ensures { λ r. ⌜ r ≡ turnOf (now (file .entry)) room before ⌝ }
+// One turn, by what is seen, with room for so many rows and lines.
+pub(crate) fn turn(room: Room, t: Tally, seen: Seen) -> Tally
+    ensures { λ r. ⌜ r ≡ bySeen seen room t ⌝ }
 {
-    let t = fresh(before);
-    let seen = glance(file, before.reading);
     match seen {
         Seen::Passes(section, next) => taken(room, t, section, next),
         Seen::Closes(section, next) => closed(room, t, section, next),
@@ -238,7 +274,7 @@ pub(crate) fn turn(file: &[u8], room: Room, before: Tally) -> Tally
         Seen::NoGrid(section) => refused(t, Refusal::NoGrid(section.number), section),
         Seen::Clean => ended(t, Outcome::Clean),
         Seen::InputOver => {
-            let last = before.last;
+            let last = t.last;
             let section = last.section;
             let place = last.place;
             let offset = section.offset;
@@ -246,7 +282,7 @@ pub(crate) fn turn(file: &[u8], room: Room, before: Tally) -> Tally
         }
         Seen::Unreadable(fault, offset) => ended(
             t,
-            Outcome::Refused(Refusal::Unreadable(fault), Place(before.sections), offset),
+            Outcome::Refused(Refusal::Unreadable(fault), Place(t.sections), offset),
         ),
     }
 }

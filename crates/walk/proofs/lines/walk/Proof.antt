@@ -55,9 +55,9 @@ use Rattle.index.proofs.line.Line as T
 use Rattle.walk.specs.declared.tally.Tally.{Tally}
 use Rattle.walk.proofs.tally.Tally as S
 use Rattle.walk.proofs.tally.Tally.Laws as S′
-use Rattle.walk.specs.Turns.{rowsAfter, linesAfter, stepOf, begunOf, concludedOf}
+use Rattle.walk.specs.Turns.{linesAfter, stepOf, begunOf, concludedOf}
 use Rattle.walk.proofs.Lists.{same-length}
-use Rattle.walk.proofs.Turns.{Held, Ran, ran, begun, turned, leftOf, falls}
+use Rattle.walk.proofs.Turns.{Held, Ran, ran, begun, stepped, leftOf, falls}
 use Rattle.walk.proofs.Values.{tallyVal, TallyIs, lineVal, LineIs, envAt}
 use Rattle.walk.proofs.lines.Answer as N
 use Rattle.walk.proofs.lines.Answer.Laws as N′
@@ -270,10 +270,10 @@ module _ {M : Type 1} (𝓤 : URA M) (H : Heap 𝓤) (A : Atoms 𝓤) (W : Given
       -- a turn that goes on
       module _ (t : At) (going : t .tally .going ≡ true) where
         abbrev w′ : Tally
-        w′ = stepOf (file .now) (length (t .rows)) (length (t .lines)) (t .tally)
+        w′ = stepOf (file .now) (length (t .lines)) (t .tally) (t .rows) .tally
 
         abbrev rows′ : List ℕ
-        rows′ = rowsAfter (w′ .passed) (w′ .last) (t .rows)
+        rows′ = stepOf (file .now) (length (t .lines)) (t .tally) (t .rows) .rows
 
         abbrev lines′ : List Line
         lines′ = linesAfter (w′ .due) (w′ .slot) (w′ .line) (t .lines)
@@ -317,13 +317,13 @@ module _ {M : Type 1} (𝓤 : URA M) (H : Heap 𝓤) (A : Atoms 𝓤) (W : Given
               tally-is = is;
               len₁ = len;
               len₂ = lines-kept ∙ t .len₂;
-              held = turned (file .now) rows lines (room₁ .0) (room₂ .0) (t .tally) (t .rows) (t .lines) going (t .held .on going) .held;
+              held = stepped (file .now) rows lines (room₁ .0) (room₂ .0) (t .lines) (t .tally) (t .rows) going (t .held .on going) .held;
             }
 
         fewer-left : leftOf (file .now) w′ < leftOf (file .now) (t .tally)
         fewer-left =
             falls (file .now) (t .tally) w′ going
-            (turned (file .now) rows lines (room₁ .0) (room₂ .0) (t .tally) (t .rows) (t .lines) going (t .held .on going) .less)
+            (stepped (file .now) rows lines (room₁ .0) (room₂ .0) (t .lines) (t .tally) (t .rows) going (t .held .on going) .less)
 
         goes : Turn t
         unfolding afterTurn

@@ -33,7 +33,7 @@ use denote.Triple.Clauses.{ensured, lasts}
 use Rattle.walk.specs.declared.tally.Tally.{Tally}
 use Rattle.walk.proofs.tally.Tally as S
 use Rattle.walk.proofs.tally.Tally.Laws as S′
-use Rattle.walk.specs.Turns.{rowsAfter, stepOf}
+use Rattle.walk.specs.Turns.{stepOf}
 use Rattle.walk.proofs.Values.{tallyVal, TallyIs}
 use Rattle.walk.proofs.lines.walk.Proof.Again.{use4, LentAgain, lends-at, comes-at}
 use Rattle.walk.proofs.lines.step as f
@@ -70,10 +70,10 @@ module _ {M : Type 1} (𝓤 : URA M) (H : Heap 𝓤) (A : Atoms 𝓤) (W : Given
 
   -- the state and the rows after the step
   abbrev w′ : Tally
-  w′ = stepOf (file .now) (length rows) lines w
+  w′ = stepOf (file .now) lines w rows .tally
 
-  abbrev rowsBy : Tally → List ℕ
-  rowsBy r = rowsAfter (r .passed) (r .last) rows
+  abbrev rows′ : List ℕ
+  rows′ = stepOf (file .now) lines w rows .rows
 
   abbrev File : Fml
   File = ShrSlice (named 0) κ₀ u8 .own file (v₀ ∷ [])
@@ -111,7 +111,7 @@ module _ {M : Type 1} (𝓤 : URA M) (H : Heap 𝓤) (A : Atoms 𝓤) (W : Given
   Has now = ⋆ 𝓤 H A (‵ File ∷ ‵ (flft κ₀ q₀) ∷ ‵ (Own now) ∷ ‵ (flft κ q) ∷ [])
 
   abbrev pub After : Val → SProp 𝓤
-  After r = H .⇛ (guard 𝓤 ((r ≡ tallyVal w′) × (TallyIs w′ × (length (rowsBy w′) ≡ n))) (Has (rowsBy w′)))
+  After r = H .⇛ (guard 𝓤 ((r ≡ tallyVal w′) × (TallyIs w′ × (length rows′ ≡ n))) (Has rows′))
 
   back : (ν : ℕ) (δ : GName) (r : Val) → ent 𝓤 (sep 𝓤 (Contr .post (to ν δ) r) (sem 𝓤 H A (Kept ν δ))) (After r)
   unfolding tallyVal
@@ -123,9 +123,9 @@ module _ {M : Type 1} (𝓤 : URA M) (H : Heap 𝓤) (A : Atoms 𝓤) (W : Given
       (id⊢ 𝓤 _) $ await ! tt $ pick ! (λ u. split ! $ move ! (1 ∷ []) $
       use1 W
       (some (λ (last : Last).
-      ‵ (lasts f.ended (κ₀, (ν ∷ [], tt)) (a δ) last) ⊛ raw (fact 𝓤 (u ≡ w′)) ⊛ raw (fact 𝓤 (last .1 .0 ≡ rowsBy u))))
+      ‵ (lasts f.ended (κ₀, (ν ∷ [], tt)) (a δ) last) ⊛ raw (fact 𝓤 (u ≡ w′)) ⊛ raw (fact 𝓤 (last .1 .0 ≡ rows′))))
       (id⊢ 𝓤 _) $ pick ! (λ last. split ! $ move ! (1 ∷ []) $ split ! $
-      heard ! (u ≡ w′) (λ e. heard ! (last .1 .0 ≡ rowsBy u) (λ stored. let left = stored ∙ ap rowsBy e in
+      heard ! (u ≡ w′) (λ e. heard ! (last .1 .0 ≡ rows′) (λ left.
       fsplit ! $ drop ! $ fsplit ! $ fsplit ! $ move ! (1 ∷ []) $ feqL ! (λ same.
       -- [the last rows; …; the tokens and the result; the file and what was kept]
       move ! (2 ∷ []) $ split ! $ move ! (1 ∷ []) $ rewrite ! 0 (λ (t : Tally). ‵ (S.the-row .own t (r ∷ []))) e refl $
