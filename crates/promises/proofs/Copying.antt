@@ -29,35 +29,6 @@ use Rattle.blindness.proofs.Copies.{length-copy}
 use Rattle.promises.specs.ExactlyWhen.{CopyGiven, copyTooLong, tooShort, ofWalk}
 use Rattle.promises.specs.Promises.{endNumbers}
 
--- no fault has the number 0
-fault-numbered : (f : Fault) → 1 ≤ faultNumber f
-unfolding faultNumber
-fault-numbered fault.Cut = omega arith
-fault-numbered (fault.OtherEdition edition) = omega arith
-fault-numbered fault.TotalUnder16 = omega arith
-fault-numbered fault.NotEndMark = omega arith
-fault-numbered (fault.LengthUnder5 len) = omega arith
-fault-numbered (fault.UnknownNumber number) = omega arith
-fault-numbered (fault.PayloadUnderLeast size) = omega arith
-fault-numbered (fault.LongerThanRest len) = omega arith
-
--- nor has a refusal
-numbered : (why : Refusal) → 1 ≤ refusalNumber why
-unfolding refusalNumber
-numbered refusal.FileTooLong = omega arith
-numbered (refusal.Unreadable f) = fault-numbered f
-numbered refusal.InputOver = omega arith
-numbered (refusal.Misplaced number) = omega arith
-numbered (refusal.NoGrid number) = omega arith
-numbered refusal.SectionTableFull = omega arith
-numbered refusal.SubmessageTableFull = omega arith
-
--- an end numbered 0 is a clean one
-pub is-clean : (o : Outcome) → endOf o .outcome ≡ 0 → o ≡ outcome.Clean
-unfolding endOf
-is-clean outcome.Clean e = refl
-is-clean (outcome.Refused why place offset) e = absurd (omega (arith, numbered why))
-
 -- a file that walks clean is not too long
 clean-short : (file : List ℕ) → walked unlimited file .outcome ≡ outcome.Clean → NotTooLong file
 clean-short file clean = go (walk-clean-exactly-when unlimited file .0 clean)

@@ -31,9 +31,7 @@ use Rattle.walk_laws.specs.ExactlyWhen.{
   hand8,
   behindHeader,
   CannotBeRead,
-  Comes,
-  started,
-  goesFurther,
+  Stand,
   Given,
   tooLong,
   unread,
@@ -55,6 +53,8 @@ use Rattle.walk_laws.specs.Laws.{
   CleanIsUnlimited,
 }
 use Rattle.walk_laws.proofs.WholeWalk.{on, after, on-next, walked-on, walk-refused-exactly-when, walk-clean-exactly-when}
+use Rattle.walk_laws.proofs.OneRead.{section-there}
+use Rattle.walk_laws.proofs.WalksTo.{WalksTo, fromStart, stepOn, comes-walks-to}
 use Rattle.walk_laws.proofs.Passing.{Way, within, goneFurther, shut, Left, nothing, oneLine, Passing, passing, halting}
 use Rattle.walk_laws.proofs.Induction.{each-stand, of-walk, gone}
 
@@ -85,10 +85,10 @@ ample-next {r = r} {reached = reached} p ample = go (p .way) (p .counted) (p .on
         let l = after-7 r ample order in record { low = omega arith; inside = λ e. omega arith }
 
 -- at every stand
-pub comes-ample : {room : Room} {file : List ℕ} {at rest : ℕ} {r : Reached} → Comes room file at rest r → (r .sections ≤ at) × Ample r
-comes-ample started = (omega arith, ample-start)
-comes-ample {room} {file} (goesFurther {at} {rest} {r = r} {s = s} c e f) =
-    let k = comes-ample c in
+pub walks-to-ample : {room : Room} {file : List ℕ} {at rest : ℕ} {r : Reached} → WalksTo room file at rest r → (r .sections ≤ at) × Ample r
+walks-to-ample fromStart = (omega arith, ample-start)
+walks-to-ample {room} {file} (stepOn {at} {rest} {r = r} {s = s} c e f) =
+    let k = walks-to-ample c in
     let low = k .0 in
     let forward = goes (reads-as file at rest e) in
     let p = passing room r s f in
@@ -226,14 +226,14 @@ messages-are-closers room file =
         rw (ne-eqb (line .end .0) 0 (λ z. omega arith), so)
 
 -- a row of the tables is first where they are full
-full : (room : Room) (r : Reached) (s : Section) (n d : ℕ) → FirstRow (rowsAfterRead room r s) n d
-    → (n ≡ 13 → RowsFull room r) × (n ≡ 14 → LinesFull room r)
-full room r s n d (inl (h, e, f)) = ((λ z. absurd (omega arith)), λ z. h .1)
-full room r s n d (inr (_, inl (h, e, f))) = ((λ z. absurd (omega arith)), λ z. absurd (omega arith))
-full room r s n d (inr (_, inr (_, inl (h, e, f)))) = ((λ z. absurd (omega arith)), λ z. absurd (omega arith))
-full room r s n d (inr (_, inr (_, inr (_, inl (h, e, f))))) = ((λ z. h), λ z. absurd (omega arith))
-full room r s n d (inr (_, inr (_, inr (_, inr (_, inl (h, e, f)))))) = ((λ z. absurd (omega arith)), λ z. h .1)
-full room r s n d (inr (_, inr (_, inr (_, inr (_, inr (_, h)))))) = absurd h
+full : (room : Room) (b : Stand) (number n d : ℕ) → FirstRow (rowsAfterRead room b number) n d
+    → (n ≡ 13 → RowsFull room b) × (n ≡ 14 → LinesFull room b)
+full room b number n d (inl (h, e, f)) = ((λ z. absurd (omega arith)), λ z. h .1)
+full room b number n d (inr (_, inl (h, e, f))) = ((λ z. absurd (omega arith)), λ z. absurd (omega arith))
+full room b number n d (inr (_, inr (_, inl (h, e, f)))) = ((λ z. absurd (omega arith)), λ z. absurd (omega arith))
+full room b number n d (inr (_, inr (_, inr (_, inl (h, e, f))))) = ((λ z. h), λ z. absurd (omega arith))
+full room b number n d (inr (_, inr (_, inr (_, inr (_, inl (h, e, f)))))) = ((λ z. absurd (omega arith)), λ z. h .1)
+full room b number n d (inr (_, inr (_, inr (_, inr (_, inr (_, h)))))) = absurd h
 
 -- no read is refused by a row of the tables
 pub to-9 : (file : List ℕ) (at rest n o d : ℕ) → CannotBeRead file at rest n o d → n ≤ 9
@@ -253,14 +253,17 @@ to-9 file at rest n o d (behindHeader a b i (here, inr (_, inr (_, inr (_, inr (
 
 never : (file : List ℕ) (n p o d : ℕ) → Given unlimited file n p o d → Not (n ≡ 13) × Not (n ≡ 14)
 never file _ _ _ _ (tooLong long) = ((λ z. omega arith), λ z. omega arith)
-never file n _ o d (unread {at} {rest} short c u) = let k = to-9 file at rest n o d u in ((λ z. omega arith), λ z. omega arith)
-never file _ _ _ _ (inputOver short c none other) = ((λ z. omega arith), λ z. omega arith)
-never file n _ _ d (misjudged {at} {rest} {r = r} {s} short c e row) =
-    let k = comes-ample c in
+never file n _ o d (unread {b} short c u) = let k = to-9 file (b .at) (b .rest) n o d u in ((λ z. omega arith), λ z. omega arith)
+never file _ _ _ _ (inputOver short c none other last) = ((λ z. omega arith), λ z. omega arith)
+never file n _ _ d (misjudged {b} {s} {rest′} short c well row) =
+    let at = comes-walks-to c in
+    let k = walks-to-ample (at .reaches) in
     let few = k .0 in
     let fewer = k .1 .low in
-    let forward = goes (reads-as file at rest e) in
-    let rows = full unlimited r s n d row in
+    let forward = goes (reads-as file (b .at) (b .rest) (section-there file (b .at) (b .rest) s rest′ well)) in
+    let sections : at .reached .sections ≡ b .sections = ap (λ (b : Stand). b .sections) (at .stood) in
+    let lines : at .reached .lines ≡ b .lines = ap (λ (b : Stand). b .lines) (at .stood) in
+    let rows = full unlimited b (s .number) n d row in
     ((λ z. let h = rows .0 z in omega arith), λ z. let h = rows .1 z in omega arith)
 
 pub unlimited-is-never-full : UnlimitedIsNeverFull
@@ -311,6 +314,7 @@ clean-in-any-room room other file clean rows lines = go (ltb 1099511627776 (leng
         ∙ sym here
 
 pub clean-is-unlimited : CleanIsUnlimited
+unfolding endOf
 clean-is-unlimited room file clean =
     let few = fewer-than-octets room file in
     let rows = few .0 in
@@ -319,7 +323,7 @@ clean-is-unlimited room file clean =
     clean-in-any-room room unlimited file clean (omega arith) (omega arith)
   where
     clean-short : (room : Room) (file : List ℕ) → walked room file .outcome ≡ outcome.Clean → length file ≤ 1099511627776
-    clean-short room file clean = short-of (walk-clean-exactly-when room file .0 clean)
+    clean-short room file clean = short-of (walk-clean-exactly-when room file .0 (rw clean refl))
       where
         short-of : EndsClean room file → length file ≤ 1099511627776
         short-of (between short c none e) = short

@@ -1,11 +1,11 @@
--- The proofs of specs/ExactlyWhen.antt and specs/EachNumber.antt: of rows, of one read, of one well-read section, of the whole walk.
 -- The proofs of specs/Laws.antt: what a passed section tells, an induction over stands, and each law.
 -- The samples and witnesses of specs/Samples.antt and specs/Witnesses.antt.
 pub mod Rows
 pub mod OneRead
 pub mod OneSection
+pub mod WalksTo
 pub mod WholeWalk
-pub mod EachNumber
+pub mod OneStep
 pub mod Passing
 pub mod Induction
 pub mod Messages

@@ -1,5 +1,5 @@
 -- A read is refused, good or over exactly when the rows of the section in hand say so.
-use Prim.Native.Nat.{ℕ, _+_, _≤_, _<_}
+use Prim.Native.Nat.{ℕ, _+_, _-_, _≤_, _<_}
 use native.Mathlib.Omega.{arith}
 use mathlib.Core.Path.{_≡_, refl, sym, subst, _∙_}
 use mathlib.Core.Bool.{Bool, true, false, not, _&&_, _||_}
@@ -18,7 +18,6 @@ use Rattle.framing.specs.Framing.{refusedAt, indicatorAt, endAt, isCut, payload
 use Rattle.framing.specs.declared.search.Found.{Found}
 use Rattle.framing.specs.declared.search.Found.the-variants.{At, Nowhere}
 use Rattle.framing.specs.declared.read.Section.{Section as Listed}
-use Rattle.framing.specs.declared.read.Cursor.{Cursor}
 use Rattle.framing.specs.declared.read.Fault.{Fault}
 use Rattle.framing.specs.Read.{Read}
 use Rattle.framing.specs.Read.{Section, Over}
@@ -36,8 +35,9 @@ use Rattle.walk_laws.specs.ExactlyWhen.{
   numberThere,
   payload,
   PayloadCut,
-  Under,
+  leastOctets,
   rowsBehindHeader,
+  sectionOf,
   InHand,
   hand0,
   hand8,
@@ -47,29 +47,24 @@ use Rattle.walk_laws.specs.ExactlyWhen.{
   noOctet,
   CannotBeRead,
   WellRead,
-  ReadRefused,
-  ReadWell,
-  RefusedExactlyWhen,
-  ReadExactlyWhen,
-  OverExactlyWhen,
 }
 use Rattle.walk_laws.proofs.Rows.{first-same, first-holds}
 
 -- what holds of any offset and rows holds of the section in hand
-pub in-hand : {file : List ℕ} {at rest : ℕ} {So : ℕ → Rows → Type 0} {A : Type 0}
-    → InHand file at rest So → ((o : ℕ) (rows : Rows) → So o rows → A) → A
-in-hand {at = at} (hand0 {g} p q so) then = then g _ so
-in-hand {at = at} (hand8 p q so) then = then at _ so
-in-hand {at = at} (behindHeader p q i so) then = then at _ so
+pub in-hand : {file : List ℕ} {at rest : ℕ} {So : Listed → ℕ → Rows → Type 0} {A : Type 0}
+    → InHand file at rest So → ((s : Listed) (behind : ℕ) (rows : Rows) → So s behind rows → A) → A
+in-hand (hand0 p q so) then = then _ _ _ so
+in-hand (hand8 p q so) then = then _ _ _ so
+in-hand (behindHeader p q i so) then = then _ _ _ so
 
 module _ (file : List ℕ) (at rest : ℕ) where
   -- there is one section in hand
-  module _ (P Q : ℕ → Rows → Type 0) where
-    pub both : InHand file at rest P → InHand file at rest Q → InHand file at rest (λ o rows. P o rows × Q o rows)
+  module _ (P Q : Listed → ℕ → Rows → Type 0) where
+    pub both : InHand file at rest P → InHand file at rest Q → InHand file at rest (λ s behind rows. P s behind rows × Q s behind rows)
     both (hand0 {g} z first p) (hand0 {g = g′} z′ first′ q) =
         let e : At g′ ≡ At g = next-start-is file at (At g′) first′ ∙ sym (next-start-is file at (At g) first) in
         let same : g′ ≡ g = cc in
-        hand0 z first (p, subst (λ (x : ℕ). Q x (rows0 file x)) same q)
+        hand0 z first (p, subst (λ (x : ℕ). Q (sectionOf 0 x 16) (total file x - 16) (rows0 file x)) same q)
     both (hand0 z first p) (hand8 z′ i q) = absurd (omega arith)
     both (hand0 z first p) (behindHeader a b i q) = absurd (a z)
     both (hand8 z i p) (hand0 z′ first q) = absurd (omega arith)
@@ -80,7 +75,7 @@ module _ (file : List ℕ) (at rest : ℕ) where
     both (behindHeader a b i p) (behindHeader a′ b′ i′ q) = behindHeader a b i (p, q)
 
   -- or none
-  pub none-there : (So : ℕ → Rows → Type 0) → InHand file at rest So → NoneInHand file at rest → ⊥
+  pub none-there : (So : Listed → ℕ → Rows → Type 0) → InHand file at rest So → NoneInHand file at rest → ⊥
   none-there So (hand0 {g} z first p) (noStart z′ none) = none g (first .0) (first .1)
   none-there So (hand0 z first p) (noOctet a i) = a z
   none-there So (hand8 z i p) (noStart z′ none) = omega arith
@@ -92,30 +87,32 @@ module _ (file : List ℕ) (at rest : ℕ) where
       → (n ≡ n′) × (o ≡ o′) × (d ≡ d′)
   same-refusal n o d n′ o′ d′ p q =
       in-hand (both _ _ p q)
-      (λ here rows so. let s = first-same rows n d n′ d′ (so .0 .1) (so .1 .1) in (s .0, so .0 .0 ∙ sym (so .1 .0), s .1))
+      (λ s behind rows so. let same = first-same rows n d n′ d′ (so .0 .1) (so .1 .1) in (same .0, so .0 .0 ∙ sym (so .1 .0), same .1))
 
-  pub never-well : (n o d o′ : ℕ) → CannotBeRead file at rest n o d → WellRead file at rest o′ → ⊥
-  never-well n o d o′ p q = in-hand (both _ _ p q) (λ here rows so. first-holds rows n d (so .0 .1) (so .1 .1))
+  pub never-well : (n o d : ℕ) (s : Listed) (rest′ : ℕ) → CannotBeRead file at rest n o d → WellRead file at rest s rest′ → ⊥
+  never-well n o d s rest′ p q = in-hand (both _ _ p q) (λ here behind rows so. first-holds rows n d (so .0 .1) (so .1 .2))
 
-  pub same-offset : (o o′ : ℕ) → WellRead file at rest o → WellRead file at rest o′ → o ≡ o′
-  same-offset o o′ p q = in-hand (both _ _ p q) (λ here rows so. so .0 .0 ∙ sym (so .1 .0))
+  pub same-section : (s s′ : Listed) (left left′ : ℕ) → WellRead file at rest s left → WellRead file at rest s′ left′
+      → (s ≡ s′) × (left ≡ left′)
+  same-section s s′ left left′ p q =
+      in-hand (both _ _ p q) (λ here behind rows so. (so .0 .0 ∙ sym (so .1 .0), so .0 .1 ∙ sym (so .1 .1)))
 
 -- the sections with a header are 1 to 7
 data Headed (n : ℕ) : LeastOf → Type 0 where
-  headed : {least : ℕ} → 1 ≤ n → n ≤ 7 → Headed n (Octets least)
+  headed : {least : ℕ} → 1 ≤ n → n ≤ 7 → leastOctets n ≡ least → Headed n (Octets least)
   bare : Not ((1 ≤ n) × (n ≤ 7)) → Headed n NoHeader
 
 by-kind : (n : ℕ) → Headed n (leastPayloadOf n)
 unfolding leastPayloadOf kindOf kinds
 by-kind n =
     by-test H (eqb n 0) (λ e. let z = eqb-true n 0 e in bare (λ h. omega (arith, h .0))) λ e0.
-    by-test H (eqb n 1) (λ e. let z = eqb-true n 1 e in headed (omega arith) (omega arith)) λ e1.
-    by-test H (eqb n 2) (λ e. let z = eqb-true n 2 e in headed (omega arith) (omega arith)) λ e2.
-    by-test H (eqb n 3) (λ e. let z = eqb-true n 3 e in headed (omega arith) (omega arith)) λ e3.
-    by-test H (eqb n 4) (λ e. let z = eqb-true n 4 e in headed (omega arith) (omega arith)) λ e4.
-    by-test H (eqb n 5) (λ e. let z = eqb-true n 5 e in headed (omega arith) (omega arith)) λ e5.
-    by-test H (eqb n 6) (λ e. let z = eqb-true n 6 e in headed (omega arith) (omega arith)) λ e6.
-    by-test H (eqb n 7) (λ e. let z = eqb-true n 7 e in headed (omega arith) (omega arith)) λ e7.
+    by-test H (eqb n 1) (λ e. let z = eqb-true n 1 e in headed (omega arith) (omega arith) (rw z refl)) λ e1.
+    by-test H (eqb n 2) (λ e. let z = eqb-true n 2 e in headed (omega arith) (omega arith) (rw z refl)) λ e2.
+    by-test H (eqb n 3) (λ e. let z = eqb-true n 3 e in headed (omega arith) (omega arith) (rw z refl)) λ e3.
+    by-test H (eqb n 4) (λ e. let z = eqb-true n 4 e in headed (omega arith) (omega arith) (rw z refl)) λ e4.
+    by-test H (eqb n 5) (λ e. let z = eqb-true n 5 e in headed (omega arith) (omega arith) (rw z refl)) λ e5.
+    by-test H (eqb n 6) (λ e. let z = eqb-true n 6 e in headed (omega arith) (omega arith) (rw z refl)) λ e6.
+    by-test H (eqb n 7) (λ e. let z = eqb-true n 7 e in headed (omega arith) (omega arith) (rw z refl)) λ e7.
     let other = bare (above e0 e1 e2 e3 e4 e5 e6 e7) in
     by-test H (eqb n 8) (λ e. other) λ e. other
   where
@@ -159,7 +156,8 @@ not-sevens file at e h =
 pub data Tells (file : List ℕ) (at rest : ℕ) : Read → Type 0 where
   refuses : {fault : Fault} {o : ℕ} → CannotBeRead file at rest (faultNumber fault) o (faultDetail fault)
       → Tells file at rest (refusedAt fault o)
-  reads : {s : Listed} {next : Cursor} → WellRead file at rest (s .offset .0) → Tells file at rest (Section s next)
+  reads : {s : Listed} {rest′ : ℕ} → WellRead file at rest s rest′
+      → Tells file at rest (Section s (record { at = record { 0 = s .offset .0 + s .length }; rest = rest′ }))
   over : NoneInHand file at rest → Tells file at rest Over
 
 -- the payload is cut where the test says so, of a section 1 to 7 with its whole header in the file
@@ -203,7 +201,7 @@ module _ (file : List ℕ) (at rest : ℕ) where
       let same = not-false _ _ e in
       by-test T (ltb (total file g) 16)
       (λ e. refuses (hand0 z first (refl, inr ((λ other. other same), inl (ltb-true _ _ e, refl, refl))))) λ e.
-      reads (hand0 z first (refl, ((λ other. other same), ((λ under. let k = ltb-false (total file g) 16 e in omega arith), tt))))
+      reads (hand0 z first (refl, refl, ((λ other. other same), ((λ under. let k = ltb-false (total file g) 16 e in omega arith), tt))))
     where
       not-true : (a b : ℕ) → not (eqb a b) ≡ true → Not (a ≡ b)
       not-true a b e same = let y : _≡_ {A = ℕ} 0 1 = cc (eq-eqb a b same) in omega arith
@@ -230,7 +228,7 @@ module _ (file : List ℕ) (at rest : ℕ) where
         refuses (hand8 last inside (refl, inl ((omega arith, omega arith), refl, refl)))) λ e.
         let no2 : Not ((1 ≤ left file at) × (left file at ≤ 3)) = λ h. let k = ltb-false (left file at) 4 e in omega (arith, h .1) in
         by-test T (says file at 55 55 55 55)
-        (λ e. reads (hand8 last inside (refl, (no2, (sevens file at e, tt))))) λ e.
+        (λ e. reads (hand8 last inside (refl, refl, (no2, (sevens file at e, tt))))) λ e.
         refuses (hand8 last inside (refl, inr (no2, inl (not-sevens file at e, refl, refl))))
 
     module _ (within : Not (rest ≡ 0)) (not-last : Not (rest ≡ 4)) where
@@ -243,7 +241,7 @@ module _ (file : List ℕ) (at rest : ℕ) where
       unfolding payloadAt faultNumber faultDetail
       tells-payload NoHeader kind (bare other) l5 n5 =
           refuses-here _ (inr ((λ h. omega (arith, h .1)), inr ((λ h. omega arith), inl (other, refl, refl))))
-      tells-payload (Octets least) kind (headed low high) l5 n5 =
+      tells-payload (Octets least) kind (headed low high same) l5 n5 =
           let no2 : Not ((1 ≤ left file at) × (left file at ≤ 4)) = λ h. omega (arith, h .1) in
           let no6 : Not (len file at < 5) = λ h. omega arith in
           let no7 : Not (Not ((1 ≤ numberThere file at) × (numberThere file at ≤ 7))) = λ h. h (low, high) in
@@ -253,13 +251,13 @@ module _ (file : List ℕ) (at rest : ℕ) where
           refuses-here _ (inr (no2, inr (no6, inr (no7, inl ((low, c .0, c .1), refl, refl)))))) λ e.
           let no2′ : Not (PayloadCut file at) = λ h. whole-is _ _ _ e (h .1, h .2) in
           by-test T (ltb (payload file at) least)
-          (λ e. refuses-here _ (inr (no2, inr (no6, inr (no7, inr (no2′, inl (rw kind (ltb-true _ _ e), refl, refl))))))) λ e.
-          let no8 : Not (Under (leastPayloadOf (numberThere file at)) (payload file at)) =
-          rw kind (λ h. let k = ltb-false (payload file at) least e in omega arith) in
+          (λ e. refuses-here _ (inr (no2, inr (no6, inr (no7, inr (no2′, inl (rw same (ltb-true _ _ e), refl, refl))))))) λ e.
+          let no8 : Not (payload file at < leastOctets (numberThere file at)) =
+          rw same (λ h. let k = ltb-false (payload file at) least e in omega arith) in
           by-test T (ltb rest (len file at))
           (λ e. refuses-here _ (inr (no2, inr (no6, inr (no7, inr (no2′, inr (no8, inl (ltb-true _ _ e, refl, refl)))))))) λ e.
           let no9 : Not (rest < len file at) = λ h. let k = ltb-false rest (len file at) e in omega arith in
-          reads (behindHeader within not-last inside (refl, (no2, (no6, (no7, (no2′, (no8, (no9, tt))))))))
+          reads (behindHeader within not-last inside (refl, refl, (no2, (no6, (no7, (no2′, (no8, (no9, tt))))))))
 
       tells-header : T (headerAt file at rest)
       unfolding headerAt faultNumber faultDetail
@@ -280,48 +278,39 @@ module _ (file : List ℕ) (at rest : ℕ) where
       let inside = leb-false (length file) at e in
       by-test T (eqb rest 4) (λ e. tells-end inside (eqb-true _ _ e)) λ e. tells-header inside some (eqb-false rest 4 e)
 
--- constructors of a read told apart
-pub refused-exactly-when : RefusedExactlyWhen
-refused-exactly-when file at rest n o d = (there, back (readAt file at rest) refl (tells file at rest))
-  where
-    there : ReadRefused file at rest n o d → CannotBeRead file at rest n o d
-    there h = go (subst (Tells file at rest) (h .refuses) (tells file at rest))
-      where
-        go : Tells file at rest (refusedAt (h .fault) o) → CannotBeRead file at rest n o d
-        go (refuses u) = rw (h .numbered, h .detailed) u
+-- a read that is refused, with its number and detail
+pub record ReadRefused (file : List ℕ) (at rest n offset d : ℕ) : Type 0 where
+  pub fault : Fault
+  pub refuses : readAt file at rest ≡ refusedAt fault offset
+  pub numbered : n ≡ faultNumber fault
+  pub detailed : d ≡ faultDetail fault
 
-    back : (r : Read) → readAt file at rest ≡ r → Tells file at rest r → CannotBeRead file at rest n o d → ReadRefused file at rest n o d
-    back _ e (refuses {fault} {o = o′} u) v =
+-- the rows say what is read
+pub refused-there : (file : List ℕ) (at rest n o d : ℕ) → CannotBeRead file at rest n o d → ReadRefused file at rest n o d
+refused-there file at rest n o d v = go (readAt file at rest) refl (tells file at rest)
+  where
+    go : (r : Read) → readAt file at rest ≡ r → Tells file at rest r → ReadRefused file at rest n o d
+    go _ e (refuses {fault} {o = o′} u) =
         let same = same-refusal file at rest n o d (faultNumber fault) o′ (faultDetail fault) v u in
         record { fault = fault; refuses = rw (same .1) e; numbered = same .0; detailed = same .2 }
-    back _ e (reads {s} w) v = absurd (never-well file at rest n o d (s .offset .0) v w)
-    back _ e (over z) v = absurd (none-there file at rest _ v z)
+    go _ e (reads {s} {rest′} w) = absurd (never-well file at rest n o d s rest′ v w)
+    go _ e (over z) = absurd (none-there file at rest _ v z)
 
-pub read-exactly-when : ReadExactlyWhen
-read-exactly-when file at rest o = (there, back (readAt file at rest) refl (tells file at rest))
+pub section-there : (file : List ℕ) (at rest : ℕ) (s : Listed) (rest′ : ℕ) → WellRead file at rest s rest′
+    → readAt file at rest ≡ Section s (record { at = record { 0 = s .offset .0 + s .length }; rest = rest′ })
+section-there file at rest s rest′ v = go (readAt file at rest) refl (tells file at rest)
   where
-    there : ReadWell file at rest o → WellRead file at rest o
-    there h = go (subst (Tells file at rest) (h .reads) (tells file at rest))
-      where
-        go : Tells file at rest (Section (h .section) (h .next)) → WellRead file at rest o
-        go (reads w) = rw (h .there) w
+    go : (r : Read) → readAt file at rest ≡ r → Tells file at rest r
+        → readAt file at rest ≡ Section s (record { at = record { 0 = s .offset .0 + s .length }; rest = rest′ })
+    go _ e (refuses {fault} {o} u) = absurd (never-well file at rest (faultNumber fault) o (faultDetail fault) s rest′ u v)
+    go _ e (reads {s = s′} {rest′ = left} w) =
+        let same = same-section file at rest s s′ rest′ left v w in rw (same .0, same .1) e
+    go _ e (over z) = absurd (none-there file at rest _ v z)
 
-    back : (r : Read) → readAt file at rest ≡ r → Tells file at rest r → WellRead file at rest o → ReadWell file at rest o
-    back _ e (refuses {fault} {o = o′} u) v = absurd (never-well file at rest (faultNumber fault) o′ (faultDetail fault) o u v)
-    back _ e (reads {s} {next} w) v =
-        record { section = s; next = next; reads = e; there = same-offset file at rest o (s .offset .0) v w }
-    back _ e (over z) v = absurd (none-there file at rest _ v z)
-
-pub over-exactly-when : OverExactlyWhen
-over-exactly-when file at rest = (there, back (readAt file at rest) refl (tells file at rest))
+pub none-read : (file : List ℕ) (at rest : ℕ) → NoneInHand file at rest → readAt file at rest ≡ Over
+none-read file at rest v = go (readAt file at rest) refl (tells file at rest)
   where
-    there : readAt file at rest ≡ Over → NoneInHand file at rest
-    there h = go (subst (Tells file at rest) h (tells file at rest))
-      where
-        go : Tells file at rest Over → NoneInHand file at rest
-        go (over z) = z
-
-    back : (r : Read) → readAt file at rest ≡ r → Tells file at rest r → NoneInHand file at rest → readAt file at rest ≡ Over
-    back _ e (refuses u) v = absurd (none-there file at rest _ u v)
-    back _ e (reads w) v = absurd (none-there file at rest _ w v)
-    back _ e (over z) v = e
+    go : (r : Read) → readAt file at rest ≡ r → Tells file at rest r → readAt file at rest ≡ Over
+    go _ e (refuses u) = absurd (none-there file at rest _ u v)
+    go _ e (reads w) = absurd (none-there file at rest _ w v)
+    go _ e (over z) = e

@@ -10,27 +10,29 @@ use lib.Seq.{getD-append-add}
 use Rattle.octets.specs.Words.{Not}
 use Rattle.framing.specs.Framing.{readAt, refusedAt}
 use Rattle.framing.specs.declared.read.Section.{Section}
+use Rattle.framing.specs.declared.read.Cursor.{Cursor}
 use Rattle.framing.specs.Read.{Read}
 use Rattle.framing.specs.Read as read
 use Rattle.index.specs.declared.bounds.Room.{Room}
 use Rattle.index.specs.Walk.{Reached, Judgement, Told, followed, walked}
 use Rattle.walk_laws.specs.ExactlyWhen.{
+  rowsAfterRead,
+  Stand,
   NotTooLong,
-  Comes,
-  started,
-  goesFurther,
   Given,
   tooLong,
   unread,
   inputOver,
   misjudged,
 }
+use Rattle.walk_laws.specs.Rows.{FirstRow}
 use Rattle.walk_laws.specs.Laws.{PlaceIsCount, offsetAt, InputOverAtLast}
-use Rattle.walk_laws.proofs.OneRead.{refused-exactly-when, over-exactly-when}
-use Rattle.walk_laws.proofs.OneSection.{stopped-exactly-when}
-use Rattle.walk_laws.proofs.WholeWalk.{on, after, on-next, walked-on, walk-refused-exactly-when, not-between}
+use Rattle.walk_laws.proofs.OneRead.{refused-there, section-there, none-read}
+use Rattle.walk_laws.proofs.OneSection.{stopped-there}
+use Rattle.walk_laws.proofs.WalksTo.{WalksTo, fromStart, stepOn, comes-walks-to}
+use Rattle.walk_laws.proofs.WholeWalk.{on, after, on-next, walked-on, walk-refused-exactly-when}
 use Rattle.walk_laws.proofs.Passing.{passing}
-use Rattle.walk_laws.proofs.Counts.{comes-ample, to-9}
+use Rattle.walk_laws.proofs.Counts.{to-9}
 
 abbrev unread-section : Section
 unread-section = record { number = 0; offset = record { 0 = 0 }; length = 0 }
@@ -43,16 +45,16 @@ record Before (told : List Section) (r : Reached) (rest : List Section) : Type 0
   last : 1 ≤ r .sections → (r .last .place .0 + 1 ≡ r .sections) × (getD done (r .last .place .0) unread-section ≡ r .last .section)
 
 module _ (room : Room) (file : List ℕ) (short : NotTooLong file) where
-  before : {at rest : ℕ} {r : Reached} → Comes room file at rest r
+  before : {at rest : ℕ} {r : Reached} → WalksTo room file at rest r
       → Before (walked room file .sections) r (on room file at rest r .sections)
-  before started =
+  before fromStart =
       record {
         done = [];
         whole = ap (λ (t : Told). t .sections) (walked-on room file short);
         count = refl;
         last = λ some. absurd (omega arith);
       }
-  before (goesFurther {at} {rest} {r = r} {reached = reached} {s = s} {cursor = cursor} c e f) =
+  before (stepOn {at} {rest} {r = r} {reached = reached} {s = s} {cursor = cursor} c e f) =
       let b = before c in
       let p = passing room r s f in
       let one = p .one in
@@ -73,7 +75,7 @@ module _ (room : Room) (file : List ℕ) (short : NotTooLong file) where
       }
 
   -- where nothing more is told that is all
-  all-told : {at rest : ℕ} {r : Reached} (c : Comes room file at rest r) (x : Read) → readAt file at rest ≡ x
+  all-told : {at rest : ℕ} {r : Reached} (c : WalksTo room file at rest r) (x : Read) → readAt file at rest ≡ x
       → after room file r x .sections ≡ [] → walked room file .sections ≡ before c .done
   all-told {at} {rest} {r} c x e none =
       let b = before c in
@@ -82,19 +84,27 @@ module _ (room : Room) (file : List ℕ) (short : NotTooLong file) where
       (ap (λ (t : Told). t .sections) (on-next room file at rest r) ∙ ap (λ (x : Read). after room file r x .sections) e ∙ none)
       ∙ append-nil (b .done)
 
-  all-counted : {at rest : ℕ} {r : Reached} (c : Comes room file at rest r) (x : Read) → readAt file at rest ≡ x
+  all-counted : {at rest : ℕ} {r : Reached} (c : WalksTo room file at rest r) (x : Read) → readAt file at rest ≡ x
       → after room file r x .sections ≡ [] → r .sections ≡ length (walked room file .sections)
   all-counted c x e none = sym (ap length (all-told c x e none) ∙ before c .count)
 
 place-of : (room : Room) (file : List ℕ) (n p o d : ℕ) → Given room file n p o d → Not (n ≡ 1) → Not (n ≡ 10)
     → p ≡ length (walked room file .sections)
 place-of room file _ _ _ _ (tooLong long) one ten = absurd (one refl)
-place-of room file n _ o d (unread {at} {rest} short c u) one ten =
-    let k = refused-exactly-when file at rest n o d .1 u in all-counted room file short c (refusedAt (k .fault) o) (k .refuses) refl
-place-of room file _ _ _ _ (inputOver short c none other) one ten = absurd (ten refl)
-place-of room file n _ _ d (misjudged {r = r} {s} {cursor} short c e first) one ten =
-    let k = stopped-exactly-when room r s n d .1 first in
-    all-counted room file short c (read.Section s cursor) e
+place-of room file n _ o d (unread {b} short c u) one ten =
+    let k = refused-there file (b .at) (b .rest) n o d u in
+    let at = comes-walks-to c in
+    sym (ap (λ (b : Stand). b .sections) (at .stood)) ∙ all-counted room file short (at .reaches) (refusedAt (k .fault) o) (k .refuses) refl
+place-of room file _ _ _ _ (inputOver short c none other last) one ten = absurd (ten refl)
+place-of room file n _ _ d (misjudged {b} {s} {rest′} short c well first) one ten =
+    let at = comes-walks-to c in
+    let r = at .reached in
+    let k =
+    stopped-there room r s n d
+    (subst (λ (b : Stand). FirstRow (rowsAfterRead room b (s .number)) n d) (sym (at .stood)) first) in
+    let cursor : Cursor = record { at = record { 0 = s .offset .0 + s .length }; rest = rest′ } in
+    sym (ap (λ (b : Stand). b .sections) (at .stood))
+    ∙ all-counted room file short (at .reaches) (read.Section s cursor) (section-there file (b .at) (b .rest) s rest′ well)
     (ap (λ (j : Judgement). followed r s j (λ reached. on room file (cursor .at .0) (cursor .rest) reached) .sections) (k .halts))
 
 pub place-is-count : PlaceIsCount
@@ -104,25 +114,30 @@ place-is-count room file n p o d zeroth one ten e =
 last-of : (room : Room) (file : List ℕ) (n p o d : ℕ) → Given room file n p o d → n ≡ 10
     → (p + 1 ≡ length (walked room file .sections)) × (o ≡ offsetAt (walked room file .sections) p)
 last-of room file _ _ _ _ (tooLong long) ten = absurd (omega arith)
-last-of room file n _ o d (unread {at} {rest} short c u) ten = let k = to-9 file at rest n o d u in absurd (omega arith)
-last-of room file _ _ _ _ (inputOver {at} {rest} {r} short c none other) ten =
-    let e = over-exactly-when file at rest .1 none in
-    let ample = comes-ample c .1 in
-    let some = ample .inside (not-between (r .order) other) in
-    let b = before room file short c in
-    let l = b .last (omega arith) in
-    let all = all-told room file short c read.Over e refl in
-    let count = all-counted room file short c read.Over e refl in (
-      l .0 ∙ count,
+last-of room file n _ o d (unread {b} short c u) ten = let k = to-9 file (b .at) (b .rest) n o d u in absurd (omega arith)
+last-of room file _ _ _ _ (inputOver {b} {last} short c none other count) ten =
+    let e = none-read file (b .at) (b .rest) none in
+    let at = comes-walks-to c in
+    let r = at .reached in
+    let told = before room file short (at .reaches) in
+    let sections : r .sections ≡ b .sections = ap (λ (b : Stand). b .sections) (at .stood) in
+    let l = told .last (omega arith) in
+    let place = l .0 in
+    let all = all-told room file short (at .reaches) read.Over e refl in
+    let here : r .last .place .0 ≡ last = omega arith in (
+      sym count ∙ sym sections ∙ all-counted room file short (at .reaches) read.Over e refl,
       sym
-          (ap (λ (t : List Section). offsetAt t (r .last .place .0)) all ∙ ap (λ (s : Section). s .offset .0) (l .1)),
+          (ap (λ (t : List Section). offsetAt t last) all
+          ∙ ap (λ (k : ℕ). offsetAt (told .done) k) (sym here)
+          ∙ ap (λ (s : Section). s .offset .0) (l .1)
+          ∙ ap (λ (b : Stand). b .last) (at .stood)),
     )
-last-of room file n _ _ d (misjudged {r = r} {s} short c e (inl (h, f, g))) ten = absurd (omega arith)
-last-of room file n _ _ d (misjudged {r = r} {s} short c e (inr (_, inl (h, f, g)))) ten = absurd (omega arith)
-last-of room file n _ _ d (misjudged {r = r} {s} short c e (inr (_, inr (_, inl (h, f, g))))) ten = absurd (omega arith)
-last-of room file n _ _ d (misjudged {r = r} {s} short c e (inr (_, inr (_, inr (_, inl (h, f, g)))))) ten = absurd (omega arith)
-last-of room file n _ _ d (misjudged {r = r} {s} short c e (inr (_, inr (_, inr (_, inr (_, inl (h, f, g))))))) ten = absurd (omega arith)
-last-of room file n _ _ d (misjudged {r = r} {s} short c e (inr (_, inr (_, inr (_, inr (_, inr (_, h))))))) ten = absurd h
+last-of room file n _ _ d (misjudged short c e (inl (h, f, g))) ten = absurd (omega arith)
+last-of room file n _ _ d (misjudged short c e (inr (_, inl (h, f, g)))) ten = absurd (omega arith)
+last-of room file n _ _ d (misjudged short c e (inr (_, inr (_, inl (h, f, g))))) ten = absurd (omega arith)
+last-of room file n _ _ d (misjudged short c e (inr (_, inr (_, inr (_, inl (h, f, g)))))) ten = absurd (omega arith)
+last-of room file n _ _ d (misjudged short c e (inr (_, inr (_, inr (_, inr (_, inl (h, f, g))))))) ten = absurd (omega arith)
+last-of room file n _ _ d (misjudged short c e (inr (_, inr (_, inr (_, inr (_, inr (_, h))))))) ten = absurd h
 
 pub input-over-at-last : InputOverAtLast
 input-over-at-last room file p o d e =

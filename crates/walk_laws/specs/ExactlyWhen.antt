@@ -1,23 +1,17 @@
 -- Refusals 1 to 14 by their rows (01, "Refusal numbers"): each is given exactly when its row holds
--- and no row before it does, in 01's order. The statements are proved in proofs/OneRead, OneSection
--- and WholeWalk.antt, under their names in small letters.
+-- and no row before it does, in 01's order. What is said here of reading and order stands by
+-- itself, in 01's numbers, beside the definitions that the code is held to. The two statements are
+-- proved in proofs/WholeWalk.antt, under their names in small letters.
 use Prim.Native.Nat.{ℕ, _+_, _-_, _^_, _≤_, _<_}
 use mathlib.Core.Path.{_≡_}
-use mathlib.Core.List.{List}
+use mathlib.Core.List.{List, [], _∷_}
 use mathlib.Core.Logic.{_⊎_}
 use lib.ListN.{length, getD}
 use Rattle.octets.specs.Words.{Not, Iff}
 use Rattle.octets.specs.BigEndian.{beAt}
-use Rattle.sections.specs.Kinds.{leastPayloadOf}
-use Rattle.sections.specs.declared.kinds.LeastOf.{LeastOf}
-use Rattle.sections.specs.declared.kinds.LeastOf.the-variants.{Octets, NoHeader}
 use Rattle.framing.specs.Search.{IsNextStart}
-use Rattle.framing.specs.Framing.{readAt, refusedAt}
 use Rattle.framing.specs.declared.search.Found.the-variants.{At, Nowhere}
 use Rattle.framing.specs.declared.read.Section.{Section}
-use Rattle.framing.specs.declared.read.Cursor.{Cursor}
-use Rattle.framing.specs.declared.read.Fault.{Fault}
-use Rattle.framing.specs.Read as read
 use Rattle.order.specs.declared.Order.{Order}
 use Rattle.order.specs.declared.Order.the-variants.{
   BetweenMessages,
@@ -31,12 +25,9 @@ use Rattle.order.specs.declared.Order.the-variants.{
   AfterData,
   SubmessageStart,
 }
-use Rattle.index.specs.declared.line.Line.{Line}
-use Rattle.index.specs.Numbers.{faultNumber, faultDetail, refusalNumber, refusalDetail, endOf}
-use Rattle.index.specs.declared.refusal.Refusal.{Refusal}
-use Rattle.index.specs.declared.refusal.Outcome.the-variants as outcome
+use Rattle.index.specs.Numbers.{endOf}
 use Rattle.index.specs.declared.bounds.Room.{Room}
-use Rattle.index.specs.Walk.{Reached, atStart, stops, passes, judgement, walked}
+use Rattle.index.specs.Walk.{walked}
 use Rattle.walk_laws.specs.Rows.{Rows, noMore, row, FirstRow, NoRow}
 
 -- 1: a file is at most 2^40 octets
@@ -119,13 +110,12 @@ PayloadCut file at =
     × ((left file at < len file at)
     ⊎ ((numberThere file at ≡ 6) × (len file at ≡ 5) × (left file at ≡ 5)))
 
--- 8: payload under its least
-abbrev pub Under : LeastOf → ℕ → Type 0
-Under (Octets least) size = size < least
-Under NoHeader size = ⊥
+-- 8: payload under its least, of sections 1 to 7: 16, none, 9, 4, 6, 1, none
+abbrev pub leastOctets : ℕ → ℕ
+leastOctets number = getD (16 ∷ 0 ∷ 9 ∷ 4 ∷ 6 ∷ 1 ∷ 0 ∷ []) (number - 1) 0
 
 abbrev pub UnderLeast : List ℕ → ℕ → Type 0
-UnderLeast file at = Under (leastPayloadOf (numberThere file at)) (payload file at)
+UnderLeast file at = payload file at < leastOctets (numberThere file at)
 
 -- 9: section longer than the rest
 abbrev pub LongerThanRest : List ℕ → ℕ → ℕ → Type 0
@@ -142,14 +132,23 @@ rowsBehindHeader file at rest =
     (row 9 (LongerThanRest file at rest) (len file at)
     noMore)))))
 
+-- a section by its number, offset and length
+abbrev pub sectionOf : ℕ → ℕ → ℕ → Section
+sectionOf number offset length =
+    record { number = number; offset = record { 0 = offset }; length = length }
+
 -- The section in hand where a read is made at `at` with `rest` octets of the message to come: this
--- is so of its offset and its rows.
-pub data InHand (file : List ℕ) (at rest : ℕ) (So : ℕ → Rows → Type 0) : Type 0 where
-  hand0 : {g : ℕ} → rest ≡ 0 → IsNextStart file at (At g) → So g (rows0 file g)
+-- is so of it, of the octets of the message behind it, and of its rows.
+pub data InHand (file : List ℕ) (at rest : ℕ) (So : Section → ℕ → Rows → Type 0) : Type 0 where
+  hand0 : {g : ℕ} → rest ≡ 0 → IsNextStart file at (At g)
+      → So (sectionOf 0 g 16) (total file g - 16) (rows0 file g)
       → InHand file at rest So
-  hand8 : rest ≡ 4 → at < length file → So at (rows8 file at) → InHand file at rest So
+  hand8 : rest ≡ 4 → at < length file → So (sectionOf 8 at 4) 0 (rows8 file at)
+      → InHand file at rest So
   behindHeader : Not (rest ≡ 0) → Not (rest ≡ 4) → at < length file
-      → So at (rowsBehindHeader file at rest) → InHand file at rest So
+      → So (sectionOf (numberThere file at) at (len file at)) (rest - len file at)
+      (rowsBehindHeader file at rest)
+      → InHand file at rest So
 
 -- there is none, the input is over: no message starts, or no octet is left where a header or
 -- section 8 is due
@@ -161,11 +160,12 @@ pub data NoneInHand (file : List ℕ) (at rest : ℕ) : Type 0 where
 -- this offset
 abbrev pub CannotBeRead : List ℕ → ℕ → ℕ → ℕ → ℕ → ℕ → Type 0
 CannotBeRead file at rest n offset d =
-    InHand file at rest (λ o rows. (offset ≡ o) × FirstRow rows n d)
+    InHand file at rest (λ s behind rows. (offset ≡ s .offset .0) × FirstRow rows n d)
 
--- it is well read: no row holds
-abbrev pub WellRead : List ℕ → ℕ → ℕ → ℕ → Type 0
-WellRead file at rest offset = InHand file at rest (λ o rows. (offset ≡ o) × NoRow rows)
+-- it is this section, with so many octets of the message behind it, and no row holds: well read
+abbrev pub WellRead : List ℕ → ℕ → ℕ → Section → ℕ → Type 0
+WellRead file at rest section rest′ =
+    InHand file at rest (λ s behind rows. (section ≡ s) × (rest′ ≡ behind) × NoRow rows)
 
 -- what may come next; every other number is a misfit
 abbrev pub CanCome : Order → ℕ → Type 0
@@ -192,111 +192,111 @@ GoesOn order n = (order ≡ AfterData) × Not (n ≡ 8)
 abbrev pub ClosesMessage : Order → ℕ → Type 0
 ClosesMessage order n = (order ≡ AfterData) × (n ≡ 8)
 
--- the tables are full
-abbrev pub RowsFull : Room → Reached → Type 0
-RowsFull room r = room .rows ≤ r .sections
+-- What stands before a read: where it is made, with how many octets of the message to come; how
+-- many sections and lines are told; what was read last, and the offset at which it stands.
+pub record Stand : Type 0 where
+  pub at : ℕ
+  pub rest : ℕ
+  pub sections : ℕ
+  pub lines : ℕ
+  pub order : Order
+  pub last : ℕ
 
-abbrev pub LinesFull : Room → Reached → Type 0
-LinesFull room r = room .lines ≤ r .lines
+-- the tables are full
+abbrev pub RowsFull : Room → Stand → Type 0
+RowsFull room b = room .rows ≤ b .sections
+
+abbrev pub LinesFull : Room → Stand → Type 0
+LinesFull room b = room .lines ≤ b .lines
 
 -- After a good read: 14 for a submessage that goes on, then 11 or 12, then 13; for a section 8 that
 -- closes: 13, then 14.
-abbrev pub rowsAfterRead : Room → Reached → Section → Rows
-rowsAfterRead room r s =
-    row 14 (GoesOn (r .order) (s .number) × LinesFull room r) 0
-    (row 12 (NoGridYet (r .order) (s .number)) (s .number)
-    (row 11 (Not (CanCome (r .order) (s .number))) (s .number)
-    (row 13 (RowsFull room r) 0
-    (row 14 (ClosesMessage (r .order) (s .number) × LinesFull room r) 0
+abbrev pub rowsAfterRead : Room → Stand → ℕ → Rows
+rowsAfterRead room b n =
+    row 14 (GoesOn (b .order) n × LinesFull room b) 0
+    (row 12 (NoGridYet (b .order) n) n
+    (row 11 (Not (CanCome (b .order) n)) n
+    (row 13 (RowsFull room b) 0
+    (row 14 (ClosesMessage (b .order) n × LinesFull room b) 0
     noMore))))
 
--- One read.
-pub record ReadRefused (file : List ℕ) (at rest n offset d : ℕ) : Type 0 where
-  pub fault : Fault
-  pub refuses : readAt file at rest ≡ refusedAt fault offset
-  pub numbered : n ≡ faultNumber fault
-  pub detailed : d ≡ faultDetail fault
+-- what was read last, by its number; a section 8 leaves no message open
+abbrev pub orderAfter : ℕ → Order
+orderAfter n =
+    getD
+    (AfterIndicator
+    ∷ AfterIdentification
+    ∷ AfterLocalUse
+    ∷ AfterGrid
+    ∷ AfterProduct
+    ∷ AfterRepresentation
+    ∷ AfterBitMap
+    ∷ AfterData
+    ∷ []) n BetweenMessages
 
-pub record ReadWell (file : List ℕ) (at rest offset : ℕ) : Type 0 where
-  pub section : Section
-  pub next : Cursor
-  pub reads : readAt file at rest ≡ read.Section section next
-  pub there : offset ≡ section .offset .0
+-- a section that is passed behind a 7 tells a line, of a submessage that goes on or of one that is
+-- its message's last
+abbrev pub linesAfter : Order → ℕ → ℕ
+linesAfter AfterData lines = lines + 1
+linesAfter BetweenMessages lines = lines
+linesAfter AfterIndicator lines = lines
+linesAfter AfterIdentification lines = lines
+linesAfter AfterLocalUse lines = lines
+linesAfter AfterGrid lines = lines
+linesAfter AfterProduct lines = lines
+linesAfter AfterRepresentation lines = lines
+linesAfter AfterBitMap lines = lines
+linesAfter SubmessageStart lines = lines
 
--- One read is refused by 2 to 9, or good, or over.
-abbrev pub RefusedExactlyWhen : Type 0
-RefusedExactlyWhen =
-    (file : List ℕ) (at rest n offset d : ℕ)
-    → Iff (ReadRefused file at rest n offset d) (CannotBeRead file at rest n offset d)
+-- before the first read
+abbrev pub fileStart : Stand
+fileStart =
+    record { at = 0; rest = 0; sections = 0; lines = 0; order = BetweenMessages; last = 0 }
 
-abbrev pub ReadExactlyWhen : Type 0
-ReadExactlyWhen =
-    (file : List ℕ) (at rest offset : ℕ)
-    → Iff (ReadWell file at rest offset) (WellRead file at rest offset)
+-- a section is passed: the next read is made at its end
+abbrev pub passedBy : Stand → Section → ℕ → Stand
+passedBy b s rest′ =
+    record {
+      at = s .offset .0 + s .length;
+      rest = rest′;
+      sections = b .sections + 1;
+      lines = linesAfter (b .order) (b .lines);
+      order = orderAfter (s .number);
+      last = s .offset .0;
+    }
 
-abbrev pub OverExactlyWhen : Type 0
-OverExactlyWhen =
-    (file : List ℕ) (at rest : ℕ) → Iff (readAt file at rest ≡ read.Over) (NoneInHand file at rest)
-
--- One well-read section.
-pub record Stopped (room : Room) (r : Reached) (s : Section) (n d : ℕ) : Type 0 where
-  pub lines : List Line
-  pub why : Refusal
-  pub halts : judgement room r s ≡ stops lines why
-  pub numbered : n ≡ refusalNumber why
-  pub detailed : d ≡ refusalDetail why
-
-pub record PassesOn (room : Room) (r : Reached) (s : Section) : Type 0 where
-  pub lines : List Line
-  pub closed : ℕ
-  pub reached : Reached
-  pub goes : judgement room r s ≡ passes lines closed reached
-
--- It stops the walk by 11 to 14, or is passed.
-abbrev pub StoppedExactlyWhen : Type 0
-StoppedExactlyWhen =
-    (room : Room) (r : Reached) (s : Section) (n d : ℕ)
-    → Iff (Stopped room r s n d) (FirstRow (rowsAfterRead room r s) n d)
-
-abbrev pub PassedExactlyWhen : Type 0
-PassedExactlyWhen =
-    (room : Room) (r : Reached) (s : Section)
-    → Iff (PassesOn room r s) (NoRow (rowsAfterRead room r s))
-
--- The whole walk. It comes to a read at `at` with `rest` octets to come and with `r` reached: all
--- sections before were read and passed.
-pub data Comes (room : Room) (file : List ℕ) : ℕ → ℕ → Reached → Type 0 where
-  started : Comes room file 0 0 atStart
-  goesFurther : {at rest closed : ℕ} {r reached : Reached} {s : Section} {cursor : Cursor}
-      {lines : List Line}
-      → Comes room file at rest r
-      → readAt file at rest ≡ read.Section s cursor
-      → judgement room r s ≡ passes lines closed reached
-      → Comes room file (cursor .at .0) (cursor .rest) reached
+-- The whole walk. It comes to a stand: each section before was well read, and no row held of it.
+pub data Comes (room : Room) (file : List ℕ) : Stand → Type 0 where
+  started : Comes room file fileStart
+  goesFurther : {b : Stand} {s : Section} {rest′ : ℕ}
+      → Comes room file b
+      → WellRead file (b .at) (b .rest) s rest′
+      → NoRow (rowsAfterRead room b (s .number))
+      → Comes room file (passedBy b s rest′)
 
 -- number, place, offset and detail of a refusal: for 1 zeros; for 2 to 9 those that the section in
 -- hand would have; for 10 those of the last section read; for 11 to 14 those of the section just
 -- read
 pub data Given (room : Room) (file : List ℕ) : ℕ → ℕ → ℕ → ℕ → Type 0 where
   tooLong : TooLong file → Given room file 1 0 0 0
-  unread : {at rest n offset d : ℕ} {r : Reached} → NotTooLong file → Comes room file at rest r
-      → CannotBeRead file at rest n offset d
-      → Given room file n (r .sections) offset d
-  inputOver : {at rest : ℕ} {r : Reached} → NotTooLong file → Comes room file at rest r
-      → NoneInHand file at rest
-      → Not (r .order ≡ BetweenMessages)
-      → Given room file 10 (r .last .place .0) (r .last .section .offset .0) 0
-  misjudged : {at rest n d : ℕ} {r : Reached} {s : Section} {cursor : Cursor} → NotTooLong file
-      → Comes room file at rest r
-      → readAt file at rest ≡ read.Section s cursor
-      → FirstRow (rowsAfterRead room r s) n d
-      → Given room file n (r .sections) (s .offset .0) d
+  unread : {b : Stand} {n offset d : ℕ} → NotTooLong file → Comes room file b
+      → CannotBeRead file (b .at) (b .rest) n offset d
+      → Given room file n (b .sections) offset d
+  inputOver : {b : Stand} {last : ℕ} → NotTooLong file → Comes room file b
+      → NoneInHand file (b .at) (b .rest)
+      → Not (b .order ≡ BetweenMessages)
+      → b .sections ≡ last + 1
+      → Given room file 10 last (b .last) 0
+  misjudged : {b : Stand} {s : Section} {rest′ n d : ℕ} → NotTooLong file → Comes room file b
+      → WellRead file (b .at) (b .rest) s rest′
+      → FirstRow (rowsAfterRead room b (s .number)) n d
+      → Given room file n (b .sections) (s .offset .0) d
 
 -- a clean end: the input is over before a message
 pub data EndsClean (room : Room) (file : List ℕ) : Type 0 where
-  between : {at rest : ℕ} {r : Reached} → NotTooLong file → Comes room file at rest r
-      → NoneInHand file at rest
-      → r .order ≡ BetweenMessages
+  between : {b : Stand} → NotTooLong file → Comes room file b
+      → NoneInHand file (b .at) (b .rest)
+      → b .order ≡ BetweenMessages
       → EndsClean room file
 
 -- 1 to 14, of a walk
@@ -306,7 +306,9 @@ WalkRefusedExactlyWhen =
     → Iff (endOf (walked room file .outcome)
     ≡ record { outcome = n; place = p; offset = o; detail = d }) (Given room file n p o d)
 
+-- 0, with three zeros
 abbrev pub WalkCleanExactlyWhen : Type 0
 WalkCleanExactlyWhen =
     (room : Room) (file : List ℕ)
-    → Iff (walked room file .outcome ≡ outcome.Clean) (EndsClean room file)
+    → Iff (endOf (walked room file .outcome)
+    ≡ record { outcome = 0; place = 0; offset = 0; detail = 0 }) (EndsClean room file)

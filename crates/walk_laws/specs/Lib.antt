@@ -5,6 +5,6 @@
 pub mod Samples
 pub mod Rows
 pub mod ExactlyWhen
-pub mod EachNumber
+pub mod OneStep
 pub mod Witnesses
 pub mod Laws
