@@ -138,9 +138,9 @@ unfolding isBlind spare apart framingLooks decoderLooks changed licensed valuesO
 one-more-fails = record { two = refl; five = refl; six = refl; seven = refl }
 
 -- the kinds' stretches are the four
-pub licensed-are : LicensedAreFour
+pub licensed-are-four : LicensedAreFour
 unfolding licensed valuesOf kindOf kinds fourStretches changed
-licensed-are number =
+licensed-are-four number =
     by-test P (eqb number 0) (λ e. is 0 e refl) λ e0.
     by-test P (eqb number 1) (λ e. is 1 e refl) λ e1.
     by-test P (eqb number 2) (λ e. is 2 e refl) λ e2.

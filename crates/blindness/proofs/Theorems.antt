@@ -25,13 +25,26 @@ use Rattle.publish.specs.Copy.{stays, publicCopy, byOutcome, copyOf}
 use Rattle.blindness.specs.Looks.{isBlind}
 use Rattle.blindness.specs.Agree.{decoded, Agree}
 use Rattle.blindness.specs.Blindness.{One, Public, Blindness, LentBlindness, PublicCopies}
-use Rattle.blindness.proofs.Spared.{Each, Spared, spared}
+use Rattle.blindness.proofs.Spared.{Each, Spared, spared, and-left, and-right}
 use Rattle.blindness.proofs.Reading.{same-pick, every-octet, Eq}
 use Rattle.blindness.proofs.Listed.{span-past, ofMessages}
 use Rattle.blindness.proofs.Alike.{blind-from, copy-from, Seen, seen-from}
 use Rattle.blindness.proofs.Fields.{decoded-same, messages-same}
 use Rattle.blindness.proofs.Walks.{fewer, fewer-values, clean-walk, walked-same}
 use Rattle.blindness.proofs.Copies.{length-copy, octet-copy, copy-keeps, copy-zeros, copy-blanks}
+
+-- neither a values octet stays, nor one outside every message
+value-goes : (terms : Terms) (f : List ℕ) (k : ℕ) → isValue terms (walked unlimited f .sections) k ≡ true
+    → stays terms f (walked unlimited f .sections) k ≡ false
+unfolding stays
+value-goes terms f k h =
+    and-right (inMessage f (walked unlimited f .sections) k) (not (isValue terms (walked unlimited f .sections) k)) (rw h)
+
+outside-goes : (terms : Terms) (f : List ℕ) (k : ℕ) → inMessage f (walked unlimited f .sections) k ≡ false
+    → stays terms f (walked unlimited f .sections) k ≡ false
+unfolding stays
+outside-goes terms f k h =
+    and-left (inMessage f (walked unlimited f .sections) k) (not (isValue terms (walked unlimited f .sections) k)) h
 
 -- lent tables are filled by the walk
 tables-same : (f g rows : List ℕ) (lines : List Line)
@@ -156,7 +169,8 @@ module _ (terms : Terms) (passed : isBlind terms ≡ true) where
           copy-decoding = λ room.
               sym (decoding-same terms (spared terms passed) f copy (sym (length-copy terms f)) copy-listed copy-seen room);
           copy-octet = λ k _. copy-keeps terms f k;
-          copy-zero = copy-zeros terms f;
+          copy-no-value = λ k h. copy-zeros terms f k (value-goes terms f k h);
+          copy-outside = λ k h. copy-zeros terms f k (outside-goes terms f k h);
         }
 
 pub blindness : Blindness

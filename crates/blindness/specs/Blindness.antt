@@ -14,7 +14,7 @@ use Rattle.index.specs.declared.bounds.Room.{Room}
 use Rattle.index.specs.Walk.{walked}
 use Rattle.walk.specs.Tables.{walkOf}
 use Rattle.publish.specs.Values.{Terms, onward, licensed, isValue, inMessage}
-use Rattle.publish.specs.Copy.{stays, publicCopy, copyOf}
+use Rattle.publish.specs.Copy.{publicCopy, copyOf}
 use Rattle.blindness.specs.Looks.{isBlind, changed, fourStretches, sixStretches}
 use Rattle.blindness.specs.Agree.{decoded, Alike, AlikeLent}
 
@@ -29,7 +29,8 @@ pub record One (terms : Terms) (f g : List ℕ) : Type 0 where
   pub one-copy : walked unlimited f .outcome ≡ Clean → publicCopy terms f ≡ publicCopy terms g
   pub one-call : (dest : List ℕ) → copyOf terms f dest ≡ copyOf terms g dest
 
--- a copy is as good as its file, has its octets in messages but for values, and 0 elsewhere
+-- a copy is as good as its file; it has the file's octet wherever that is inside a message and no
+-- values octet, and 0 at values octets and outside every message
 pub record Public (terms : Terms) (f copy : List ℕ) : Type 0 where
   pub copy-length : length copy ≡ length f
   pub copy-listing : listing copy ≡ listing f
@@ -40,7 +41,9 @@ pub record Public (terms : Terms) (f copy : List ℕ) : Type 0 where
       → decoded copy (walked room copy .sections) ≡ decoded f (walked room f .sections)
   pub copy-octet : (k : ℕ) → k < length f → inMessage f (walked unlimited f .sections) k ≡ true
       → isValue terms (walked unlimited f .sections) k ≡ false → getD copy k 0 ≡ getD f k 0
-  pub copy-zero : (k : ℕ) → stays terms f (walked unlimited f .sections) k ≡ false
+  pub copy-no-value : (k : ℕ) → isValue terms (walked unlimited f .sections) k ≡ true
+      → getD copy k 0 ≡ 0
+  pub copy-outside : (k : ℕ) → inMessage f (walked unlimited f .sections) k ≡ false
       → getD copy k 0 ≡ 0
 
 -- files that differ in values octets only are one, under every terms that pass the test ..

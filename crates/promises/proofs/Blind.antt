@@ -1,52 +1,91 @@
--- Demand 3, at document 01's terms: two files that differ in values octets only are one, a public copy is as good as its file, and which
--- octets do not stay.
-use Prim.Native.Nat.{ℕ}
-use mathlib.Core.Path.{_≡_, ap}
-use mathlib.Core.Bool.{false, not, not-eq-not}
-use mathlib.Core.List.{List}
-use Rattle.octets.specs.Words.{Not}
-use Rattle.framing.proofs.Tests.{never-both}
+-- Demand 3, at document 01's terms: two files that differ in values octets only are one to every reader, and a copy is as good as its file.
+use Prim.Native.Nat.{ℕ, _/_}
+use mathlib.Core.Path.{_≡_, refl, sym, ap, _∙_}
+use mathlib.Core.Bool.{Bool, true, false}
+use mathlib.Core.List.{List, [], _∷_, map}
+use lib.Dec.{eqb}
+use lib.ListN.{length}
+use Rattle.octets.specs.Words.{pick}
+use Rattle.framing.specs.declared.read.Section.{Section}
 use Rattle.index.specs.Numbers.{endOf}
-use Rattle.index.specs.declared.numbers.End.{End}
-use Rattle.index.specs.declared.refusal.Outcome.the-variants.{Clean}
 use Rattle.index.specs.Bounds.{unlimited}
 use Rattle.index.specs.Walk.{Told, walked}
-use Rattle.publish.specs.Values.{licensed, isValue, inMessage}
-use Rattle.publish.specs.Copy.{stays, publicCopy}
+use Rattle.walk.specs.Tables.{roomOf}
+use Rattle.walk.specs.Numbers.{walkNumbers}
+use Rattle.pull.specs.Calls.{pullAt, afterCalls}
+use Rattle.pull.specs.Pull.{handsOut, pulled}
+use Rattle.pull.proofs.Sequence.{sequence}
+use Rattle.publish.specs.Values.{licensed}
+use Rattle.publish.specs.Copy.{publicCopy}
+use Rattle.blindness.specs.Agree.{SectionFields, ofIndicator, ofIdentification, ofGrid, ofProduct, ofRepresentation, ofBitMap, ofNone, productSectionOf, fieldsOf, decoded, Alike}
 use Rattle.blindness.specs.Blindness.{One, Public}
-use Rattle.blindness.proofs.Spared.{and-left, and-right, terms-pass}
+use Rattle.blindness.proofs.Spared.{terms-pass}
 use Rattle.blindness.proofs.Theorems.{blindness, public-copies}
-use Rattle.promises.specs.Promises.{endNumbers, sectionsOf, IsValuesOctet, IsInsideMessage, DifferInValuesOnly}
-use Rattle.promises.proofs.Copying.{is-clean}
-
--- one walk has one end answer
-pub one-end : {t u : Told} → t ≡ u → endOf (t .outcome) ≡ endOf (u .outcome)
-one-end e = ap (λ (told : Told). endOf (told .outcome)) e
-
--- an end of four zeros is a clean one
-pub clean : (f : List ℕ) → endOf (walked unlimited f .outcome) ≡ endNumbers 0 0 0 0 → walked unlimited f .outcome ≡ Clean
-clean f e = is-clean (walked unlimited f .outcome) (ap (λ (x : End). x .outcome) e)
+use Rattle.buttresk.specs.Fields as fields
+use Rattle.buttresk.specs.Product.{definitionFields, octetField, timeField, surfacesField, productFields}
+use Rattle.walk_laws.proofs.WholeWalk.{is-clean}
+use Rattle.promises.specs.CFace.{FaceFields, indicatorFace, identificationFace, gridFace, productFace, representationFace, bitMapFace, noFace, faceOf}
 
 -- two files that differ in values octets only are one to every reader
-pub one : (f g : List ℕ) → DifferInValuesOnly f g → One licensed f g
-one f g d =
-    blindness licensed (terms-pass .licensed-pass) f g
-    (record { one-length = d .one-length; one-octet = λ k i e. d .same-octets k i (λ t. never-both t e) })
+pub one : (f g : List ℕ) → Alike licensed f g → One licensed f g
+one f g d = blindness licensed (terms-pass .licensed-pass) f g d
 
 -- a copy is as good as its file
-pub public : (f : List ℕ) → endOf (walked unlimited f .outcome) ≡ endNumbers 0 0 0 0 → Public licensed f (publicCopy licensed f)
-public f e = public-copies licensed (terms-pass .licensed-pass) f (clean f e)
+pub public : (f : List ℕ) → endOf (walked unlimited f .outcome) .outcome ≡ 0 → Public licensed f (publicCopy licensed f)
+public f e = public-copies licensed (terms-pass .licensed-pass) f (is-clean (walked unlimited f .outcome) e)
 
--- an octet that is no values octet
-pub no-value : (f : List ℕ) (k : ℕ) → Not (IsValuesOctet f k) → isValue licensed (sectionsOf f) k ≡ false
-no-value f k h = not-eq-not {b = false} .0 h
+pub equal-numbers : (f g : List ℕ) → Alike licensed f g → (rows lines : List ℕ) → walkNumbers f rows lines ≡ walkNumbers g rows lines
+unfolding walkNumbers
+equal-numbers f g d rows lines = rw (one f g d .one-walk (roomOf (length rows) (length lines / 12))) refl
 
--- a values octet does not stay
-pub value-goes : (f : List ℕ) (k : ℕ) → IsValuesOctet f k → stays licensed f (sectionsOf f) k ≡ false
-unfolding stays
-value-goes f k h = and-right (inMessage f (sectionsOf f) k) (not (isValue licensed (sectionsOf f) k)) (rw h)
+pub equal-pulls : (f g : List ℕ) → Alike licensed f g → (call : ℕ)
+    → pullAt f (afterCalls call f) .answer ≡ pullAt g (afterCalls call g) .answer
+unfolding pulled
+equal-pulls f g d call =
+    sequence f call ∙ ap (λ (t : Told). handsOut 0 (t .sections) (t .outcome) call) (one f g d .one-walk unlimited) ∙ sym (sequence g call)
 
--- nor does an octet outside every message
-pub outside-goes : (f : List ℕ) (k : ℕ) → Not (IsInsideMessage f k) → stays licensed f (sectionsOf f) k ≡ false
-unfolding stays
-outside-goes f k h = and-left (inMessage f (sectionsOf f) k) (not (isValue licensed (sectionsOf f) k)) (not-eq-not {b = false} .0 h)
+-- the C face's fields are the library's, as numbers
+abbrev shown : SectionFields → FaceFields
+shown (ofIndicator i) = indicatorFace (fields.indicatorFields i)
+shown (ofIdentification i) = identificationFace (fields.identificationFields i)
+shown (ofGrid g) = gridFace (fields.gridFields g)
+shown (ofProduct p) =
+    let definition = definitionFields (p .definition) in
+    productFace
+    (record {
+      known = definition .known;
+      coordinates = definition .coordinates;
+      template = definition .template;
+      category = octetField (p .product .category);
+      number = octetField (p .product .number);
+      process = octetField (p .product .process);
+      time = timeField (p .product .time);
+      surfaces = surfacesField (p .product .surfaces);
+    })
+shown (ofRepresentation r) = representationFace (fields.representationFields r)
+shown (ofBitMap b) = bitMapFace (fields.bitMapFields b)
+shown ofNone = noFace
+
+-- by a test, on either side
+shown-pick : (t : Bool) (a b : SectionFields) (c d : FaceFields) → c ≡ shown a → d ≡ shown b → pick t c d ≡ shown (pick t a b)
+shown-pick true a b c d e f = e
+shown-pick false a b c d e f = f
+
+shows : (file : List ℕ) (s : Section) → faceOf file s ≡ shown (fieldsOf file s)
+unfolding faceOf fieldsOf productSectionOf productFields
+shows file s =
+    shown-pick (eqb (s .number) 0) _ _ _ _ refl (shown-pick (eqb (s .number) 1) _ _ _ _ refl
+    (shown-pick (eqb (s .number) 3) _ _ _ _ refl (shown-pick (eqb (s .number) 4) _ _ _ _ refl
+    (shown-pick (eqb (s .number) 5) _ _ _ _ refl (shown-pick (eqb (s .number) 6) _ _ _ _ refl refl)))))
+
+all-show : (file : List ℕ) (sections : List Section) → map (faceOf file) sections ≡ map shown (decoded file sections)
+unfolding decoded
+all-show file [] = refl
+all-show file (s ∷ more) = rw (shows file s, all-show file more) refl
+
+pub equal-faces : (f g : List ℕ) → Alike licensed f g
+    → map (faceOf f) (walked unlimited f .sections) ≡ map (faceOf g) (walked unlimited g .sections)
+equal-faces f g d =
+    all-show f (walked unlimited f .sections)
+    ∙ ap (map shown) (one f g d .one-decoding unlimited)
+    ∙ sym (all-show g (walked unlimited g .sections))

@@ -8,13 +8,9 @@ use lib.ListN.{length, take, drop}
 use lib.Seq.{take-at}
 use borrow.Author.Tests.{lt-ltb, le-ltb}
 use Rattle.octets.specs.Words.{Not, Iff}
-use Rattle.framing.specs.declared.read.Fault.{Fault}
-use Rattle.framing.specs.declared.read.Fault.the-variants as fault
-use Rattle.index.specs.Numbers.{faultNumber, refusalNumber, endOf, stored, unplaced}
+use Rattle.index.specs.Numbers.{endOf, stored, unplaced}
 use Rattle.index.specs.declared.numbers.End.{End}
 use Rattle.index.specs.declared.numbers.StoreEnd.{StoreEnd}
-use Rattle.index.specs.declared.refusal.Refusal.{Refusal}
-use Rattle.index.specs.declared.refusal.Refusal.the-variants as refusal
 use Rattle.index.specs.declared.refusal.Outcome.{Outcome}
 use Rattle.index.specs.declared.refusal.Outcome.the-variants as outcome
 use Rattle.index.specs.Bounds.{unlimited}
@@ -24,21 +20,25 @@ use Rattle.publish.specs.Copy.{publicCopy, byOutcome, copyOf}
 use Rattle.publish.specs.End.{copyEnd}
 use Rattle.publish.proofs.Runs.{split}
 use Rattle.walk_laws.specs.ExactlyWhen.{TooLong, NotTooLong, EndsClean, between}
-use Rattle.walk_laws.proofs.WholeWalk.{walk-refused-exactly-when, walk-clean-exactly-when}
+use Rattle.walk_laws.proofs.WholeWalk.{from-1, is-clean, walk-refused-exactly-when, walk-clean-exactly-when}
 use Rattle.blindness.proofs.Copies.{length-copy}
-use Rattle.promises.specs.ExactlyWhen.{CopyGiven, copyTooLong, tooShort, ofWalk}
-use Rattle.promises.specs.Promises.{endNumbers}
+use Rattle.promises.specs.CopyGiven.{
+  CopyGiven,
+  copyTooLong,
+  tooShort,
+  ofWalk,
+  refusing,
+  CopyRefusedExactlyWhen,
+  CopyWrittenExactlyWhen,
+}
 
 -- a file that walks clean is not too long
 clean-short : (file : List ℕ) → walked unlimited file .outcome ≡ outcome.Clean → NotTooLong file
-clean-short file clean = go (walk-clean-exactly-when unlimited file .0 clean)
+unfolding endOf
+clean-short file clean = go (walk-clean-exactly-when unlimited file .0 (ap endOf clean))
   where
     go : EndsClean unlimited file → NotTooLong file
     go (between short c none e) = short
-
--- an end of a copy in numbers that is a refusal
-abbrev refusing : ℕ → ℕ → ℕ → ℕ → StoreEnd
-refusing n p o d = record { end = endNumbers n p o d; written = 0 }
 
 module _ (file dest : List ℕ) where
   -- what a call answers, in numbers
@@ -70,7 +70,7 @@ module _ (file dest : List ℕ) where
   when-walked short fits = ap (λ c. copyEnd (c .answer)) (by-walk short fits)
 
   -- a walk's refusal is the copy's
-  refused-alike : (x : Outcome) (n p o d : ℕ) → Not (n ≡ 0) → Iff (answersTo x ≡ refusing n p o d) (endOf x ≡ endNumbers n p o d)
+  refused-alike : (x : Outcome) (n p o d : ℕ) → Not (n ≡ 0) → Iff (answersTo x ≡ refusing n p o d) (endOf x ≡ refusing n p o d .end)
   unfolding byOutcome copyEnd stored endOf
   refused-alike outcome.Clean n p o d some = (
     (λ e. absurd (some (sym (ap (λ (s : StoreEnd). s .end .outcome) e)))),
@@ -86,15 +86,15 @@ module _ (file dest : List ℕ) where
   unfolding byOutcome copyEnd stored endOf
   clean-alike outcome.Clean octets e = (refl, sym (ap (λ (s : StoreEnd). s .written) e))
   clean-alike (outcome.Refused why place offset) octets e =
-      absurd (omega (arith, numbered why, ap (λ (s : StoreEnd). s .end .outcome) e))
+      absurd (omega (arith, from-1 why, ap (λ (s : StoreEnd). s .end .outcome) e))
 
   -- the numbers of an end that is given
   abbrev Numbers : StoreEnd → Type 0
   Numbers e = CopyGiven file dest (e .end .outcome) (e .end .place) (e .end .offset) (e .end .detail)
 
   -- 1, 19, then the walk's refusals, exactly when they are due
-  pub copy-refuses : (n p o d : ℕ) → Not (n ≡ 0) → Iff (answers ≡ refusing n p o d) (CopyGiven file dest n p o d)
-  copy-refuses n p o d some = (there, back n p o d some)
+  refuses : (n p o d : ℕ) → Not (n ≡ 0) → Iff (answers ≡ refusing n p o d) (CopyGiven file dest n p o d)
+  refuses n p o d some = (there, back n p o d some)
     where
       there : answers ≡ refusing n p o d → CopyGiven file dest n p o d
       there e =
@@ -112,11 +112,11 @@ module _ (file dest : List ℕ) where
           ∙ refused-alike (walked unlimited file .outcome) n p o d some .1 (walk-refused-exactly-when unlimited file n p o d some .1 given)
 
   -- and all of the file exactly when none is
-  pub copy-whole : (octets : ℕ)
+  whole : (octets : ℕ)
       → Iff (answers ≡ stored octets)
       (NotTooLong file × (length file ≤ length dest) × EndsClean unlimited file × (octets ≡ length file))
   unfolding byOutcome copyEnd stored endOf
-  copy-whole octets = (there, back)
+  whole octets = (there, back)
     where
       -- a number that is given for a whole copy too is 0
       zeroth : {n : ℕ} → answers ≡ refusing n 0 0 0 → answers ≡ stored octets → n ≡ 0
@@ -128,11 +128,14 @@ module _ (file dest : List ℕ) where
           split 1099511627776 (length file) (λ long. absurd (omega (arith, zeroth (when-long long) e))) λ short.
           split (length dest) (length file) (λ less. absurd (omega (arith, zeroth (when-short short less) e))) λ fits.
           let ends = clean-alike (walked unlimited file .outcome) octets (sym (when-walked short fits) ∙ e) in
-          (short, fits, walk-clean-exactly-when unlimited file .0 (ends .0), ends .1)
+          (short, fits, walk-clean-exactly-when unlimited file .0 (ap endOf (ends .0)), ends .1)
 
       back : NotTooLong file × (length file ≤ length dest) × EndsClean unlimited file × (octets ≡ length file) → answers ≡ stored octets
       back (short, fits, ends, e) =
-          when-walked short fits ∙ ap answersTo (walk-clean-exactly-when unlimited file .1 ends) ∙ ap stored (sym e)
+          when-walked short fits
+          ∙ ap answersTo
+          (is-clean (walked unlimited file .outcome) (ap (λ (x : End). x .outcome) (walk-clean-exactly-when unlimited file .1 ends)))
+          ∙ ap stored (sym e)
 
   -- on a clean walk the public copy is what stands in front
   pub copied : walked unlimited file .outcome ≡ outcome.Clean → length file ≤ length dest
@@ -141,3 +144,9 @@ module _ (file dest : List ℕ) where
   copied clean fits =
       rw (by-walk (clean-short file clean) fits, clean)
       (take-at (publicCopy licensed file) (drop (length file) dest) (length file) (length-copy licensed file))
+
+pub copy-refused-exactly-when : CopyRefusedExactlyWhen
+copy-refused-exactly-when file dest = refuses file dest
+
+pub copy-written-exactly-when : CopyWrittenExactlyWhen
+copy-written-exactly-when file dest = whole file dest

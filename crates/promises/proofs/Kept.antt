@@ -1,73 +1,83 @@
 -- The three demands of specs/Promises.antt are kept.
-use mathlib.Core.Path.{sym, _∙_}
+use mathlib.Core.Path.{sym, ap, _∙_}
+use Rattle.index.specs.Numbers.{endOf}
 use Rattle.index.specs.Bounds.{unlimited}
-use Rattle.pull.proofs.Sequence.{sequence}
-use Rattle.walk_laws.proofs.Computed.{starred-hold}
-use Rattle.walk_laws.proofs.WholeWalk.{walk-refused-exactly-when, walk-clean-exactly-when}
+use Rattle.index.specs.Walk.{Told, walked}
+use Rattle.walk_laws.proofs.Computed.{starred-hold, others-hold, witnesses-hold, too-long-refused}
+use Rattle.walk_laws.proofs.WholeWalk.{is-clean, walk-refused-exactly-when, walk-clean-exactly-when}
+use Rattle.walk_laws.proofs.OneStep.{one-read-exactly-when, one-judgement-exactly-when, one-order-exactly-when}
 use Rattle.walk_laws.proofs.Messages.{closed-messages-are-tiled, each-end-closes-a-message, messages-are-ends, no-end-at-place-0}
-use Rattle.walk_laws.proofs.Counts.{end-places-are-ends, fewer-than-octets, within-room, unlimited-is-never-full, clean-in-any-room}
+use Rattle.walk_laws.proofs.Counts.{within-room, unlimited-is-never-full}
 use Rattle.walk_laws.proofs.Places.{place-is-count, input-over-at-last}
 use Rattle.blindness.proofs.Theorems.{blindness, lent-blindness, public-copies}
+use Rattle.blindness.proofs.Spared.{licensed-are-four, terms-pass, one-more-fails}
 use Rattle.promises.specs.Promises.{Demand1, Demand2, Demand3}
-use Rattle.promises.proofs.Leaves.{walk-stores, walk-leaves, copy-leaves, write-leaves}
-use Rattle.promises.proofs.Pulling.{pull-passes}
-use Rattle.promises.proofs.Copying.{copied, copy-refuses, copy-whole}
-use Rattle.promises.proofs.Writing.{write-refuses, write-takes, plan-order, reads-back}
-use Rattle.promises.proofs.Blind.{one-end, clean, one, public, no-value, value-goes, outside-goes}
+use Rattle.promises.specs.AllTerms.{ForAllTerms}
+use Rattle.promises.proofs.Leaves.{walk-stores, numbers-store, copy-leaves, write-leaves}
+use Rattle.promises.proofs.Pulling.{pull-hands-out}
+use Rattle.promises.proofs.Copying.{copied, copy-refused-exactly-when, copy-written-exactly-when}
+use Rattle.promises.proofs.Writing.{plan-refused-exactly-when, plan-taken-exactly-when, one-message-is-in-order, written-reads-back}
+use Rattle.promises.proofs.Blind.{one, public, equal-numbers, equal-faces, equal-pulls}
 
 -- what was stored stands, and all else lent is untouched
 pub demand-1 : Demand1
-demand-1 = record { walk-stores = walk-stores; walk-leaves = walk-leaves; copy-leaves = copy-leaves; write-leaves = write-leaves }
+demand-1 = record { walk-stores = walk-stores; numbers-store = numbers-store; copy-leaves = copy-leaves; write-leaves = write-leaves }
 
 -- what makes the definitions worth believing
 pub demand-2 : Demand2
 demand-2 =
     record {
-      samples = starred-hold;
       walk-refuses = walk-refused-exactly-when;
       walk-ends-clean = walk-clean-exactly-when;
+      one-read = one-read-exactly-when;
+      one-judgement = one-judgement-exactly-when;
+      one-order = one-order-exactly-when;
+      starred = starred-hold;
+      others = others-hold;
+      each-refusal = witnesses-hold;
+      too-long = too-long-refused;
       tiled = closed-messages-are-tiled;
       ends-close = each-end-closes-a-message;
       messages-counted = messages-are-ends;
       no-end-at-0 = no-end-at-place-0;
-      end-places = end-places-are-ends;
-      fewer-than-octets = fewer-than-octets;
-      within-room = within-room;
       place-is-count = place-is-count;
       over-at-last = input-over-at-last;
+      within-room = within-room;
       never-full = unlimited-is-never-full;
-      clean-in-any-room = clean-in-any-room;
-      pull-is-walk = sequence;
-      pull-passes = pull-passes;
-      copy-refuses = copy-refuses;
-      copy-whole = copy-whole;
-      write-refuses = write-refuses;
-      write-takes = write-takes;
-      plan-order = plan-order;
-      reads-back = reads-back;
+      pull-hands-out = pull-hands-out;
+      copy-refuses = copy-refused-exactly-when;
+      copy-written = copy-written-exactly-when;
+      plan-refused = plan-refused-exactly-when;
+      plan-taken = plan-taken-exactly-when;
+      one-message = one-message-is-in-order;
+      reads-back = written-reads-back;
     }
 
 -- no values octet reaches an answer or a copy
 pub demand-3 : Demand3
 demand-3 =
     record {
-      equal-lines = λ f g d. one f g d .one-tables;
-      equal-fields = λ f g d. one f g d .one-decoding unlimited;
-      equal-ends = λ f g d. one-end (one f g d .one-walk unlimited);
+      equal-files = one;
+      equal-numbers = equal-numbers;
+      equal-faces = equal-faces;
+      equal-pulls = equal-pulls;
       equal-copies = λ f g d e dest other fits also.
-          copied f dest (clean f e) fits
-          ∙ one f g d .one-copy (clean f e)
-          ∙ sym (copied g other (clean g (sym (one-end (one f g d .one-walk unlimited)) ∙ e)) also);
-      copy-stands = λ f e dest fits.
-          rw (copied f dest (clean f e) fits) (
-            public f e .copy-tables,
-            public f e .copy-decoding unlimited,
-            one-end (public f e .copy-walk unlimited) ∙ e,
-            (λ k i inside none. public f e .copy-octet k i inside (no-value f k none)),
-            (λ k h. public f e .copy-zero k (value-goes f k h)),
-            λ k h. public f e .copy-zero k (outside-goes f k h),
-          );
-      for-all-terms = blindness;
+          let clean = is-clean (walked unlimited f .outcome) e in
+          let clean′ =
+          is-clean (walked unlimited g .outcome)
+          (sym (ap (λ (told : Told). endOf (told .outcome) .outcome) (one f g d .one-walk unlimited)) ∙ e) in
+          copied f dest clean fits ∙ one f g d .one-copy clean ∙ sym (copied g other clean′ also);
+      copy-stands = λ f e dest fits. rw (copied f dest (is-clean (walked unlimited f .outcome) e) fits) (public f e);
+    }
+
+-- nor under any other terms that pass the test
+pub for-all-terms : ForAllTerms
+for-all-terms =
+    record {
+      equal-files = blindness;
       with-lent-tables = lent-blindness;
-      copies-for-all-terms = public-copies;
+      copies = public-copies;
+      four-stretches = licensed-are-four;
+      terms-pass = terms-pass;
+      one-more-fails = one-more-fails;
     }

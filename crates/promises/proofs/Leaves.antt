@@ -1,5 +1,5 @@
 -- Demand 1: what a walk, a public copy and a write leave of the memory that they are lent.
-use Prim.Native.Nat.{ℕ, _*_, _≤_}
+use Prim.Native.Nat.{ℕ, _*_, _/_, _≤_}
 use native.Mathlib.Omega.{arith}
 use mathlib.Core.Path.{_≡_, refl, sym, _∙_}
 use mathlib.Core.List.{List, [], _∷_, _++_}
@@ -14,8 +14,9 @@ use Rattle.index.specs.Numbers.{stored}
 use Rattle.index.specs.declared.refusal.Outcome.{Outcome}
 use Rattle.index.specs.declared.refusal.Outcome.the-variants as outcome
 use Rattle.index.specs.Bounds.{unlimited}
-use Rattle.index.specs.Walk.{Told, walked}
-use Rattle.walk.specs.Tables.{roomOf, rowsOf, walkOf}
+use Rattle.index.specs.Walk.{walked}
+use Rattle.walk.specs.Tables.{roomOf, rowsOf, storedOver, walkOf}
+use Rattle.walk.specs.Numbers.{lineNumbers, linesOf, walkNumbers}
 use Rattle.publish.specs.Values.{licensed}
 use Rattle.publish.specs.Copy.{publicCopy, Copied, byOutcome, copyOf}
 use Rattle.publish.specs.End.{copyEnd}
@@ -29,10 +30,7 @@ use Rattle.writer.proofs.Checks.{accepted, all-sound}
 use Rattle.writer.proofs.Lengths.{length-message}
 use Rattle.walk_laws.proofs.Counts.{within-room}
 use Rattle.blindness.proofs.Copies.{length-copy}
-
--- lent memory keeps its length, and what is past the first so many
-abbrev Leaves : {A : Type 0} → ℕ → List A → List A → Type 0
-Leaves n before after = (length after ≡ length before) × (drop n after ≡ drop n before)
+use Rattle.promises.specs.Lent.{Leaves, Holds, WalkStores, NumbersStore, CopyLeaves, WriteLeaves}
 
 -- so where so many are put in front of the others
 in-front : {A : Type 0} (new before : List A) (n : ℕ) → length new ≡ n → n ≤ length before → Leaves n before (new ++ drop n before)
@@ -47,48 +45,44 @@ unfolding rowsOf
 three-each [] = refl
 three-each (s ∷ more) = let later = three-each more in omega arith
 
--- a walk stores its rows and lines in front
-pub walk-stores : (file rows : List ℕ) (lines : List Line)
-    → let tables = walkOf file rows lines in
-    let told = walked (roomOf (length rows) (length lines)) file in
-    (take (3 * tables .answer .sections) (tables .rows) ≡ rowsOf (told .sections))
-    × (take (tables .answer .submessages) (tables .lines) ≡ told .lines)
+-- and a line twelve
+twelve-each : (lines : List Line) → length (linesOf lines) ≡ 12 * length lines
+unfolding linesOf lineNumbers
+twelve-each [] = refl
+twelve-each (l ∷ more) = let later = twelve-each more in let sum = length-append (lineNumbers l) (linesOf more) in omega arith
+
+-- a table that is filled in front
+held : {A : Type 0} (new before : List A) → length new ≤ length before → Holds new before (storedOver new before)
+held new before fits = (take-at new (drop (length new) before) (length new) refl, in-front new before (length new) refl fits)
+
+-- rows in as many numbers as there is room for
+rows-fit : (sections : List Section) (numbers : ℕ) → length sections ≤ numbers / 3 → length (rowsOf sections) ≤ numbers
+rows-fit sections numbers fits = let three = three-each sections in omega arith
+
+lines-fit : (lines : List Line) (numbers : ℕ) → length lines ≤ numbers / 12 → length (linesOf lines) ≤ numbers
+lines-fit lines numbers fits = let twelve = twelve-each lines in omega arith
+
+pub walk-stores : WalkStores
 unfolding walkOf
 walk-stores file rows lines =
-    let told = walked (roomOf (length rows) (length lines)) file in (
-      take-at (rowsOf (told .sections)) (drop (length (rowsOf (told .sections))) rows) (3 * length (told .sections)) (three-each (told .sections)),
-      take-at (told .lines) (drop (length (told .lines)) lines) (length (told .lines)) refl,
+    let room = roomOf (length rows) (length lines) in
+    let told = walked room file in
+    let fits = within-room room file in
+    (held (rowsOf (told .sections)) rows (rows-fit (told .sections) (length rows) (fits .0)), held (told .lines) lines (fits .1), refl)
+
+pub numbers-store : NumbersStore
+unfolding walkNumbers
+numbers-store file rows lines =
+    let room = roomOf (length rows) (length lines / 12) in
+    let told = walked room file in
+    let fits = within-room room file in (
+      held (rowsOf (told .sections)) rows (rows-fit (told .sections) (length rows) (fits .0)),
+      held (linesOf (told .lines)) lines (lines-fit (told .lines) (length lines) (fits .1)),
+      refl,
     )
 
--- and leaves the rest, as many as there is room for
-pub walk-leaves : (file rows : List ℕ) (lines : List Line)
-    → let tables = walkOf file rows lines in
-    (length (tables .rows) ≡ length rows) × (length (tables .lines) ≡ length lines)
-    × (drop (3 * tables .answer .sections) (tables .rows) ≡ drop (3 * tables .answer .sections) rows)
-    × (drop (tables .answer .submessages) (tables .lines) ≡ drop (tables .answer .submessages) lines)
-unfolding walkOf
-walk-leaves file rows lines = (of-rows .0, of-lines .0, rw (← three) (of-rows .1), of-lines .1)
-  where
-    told : Told
-    told = walked (roomOf (length rows) (length lines)) file
-
-    fits : (length (told .sections) ≤ roomOf (length rows) (length lines) .rows) × (length (told .lines) ≤ length lines)
-    fits = within-room (roomOf (length rows) (length lines)) file
-
-    three : length (rowsOf (told .sections)) ≡ 3 * length (told .sections)
-    three = three-each (told .sections)
-
-    of-rows : Leaves (length (rowsOf (told .sections))) rows (rowsOf (told .sections) ++ drop (length (rowsOf (told .sections))) rows)
-    of-rows = in-front (rowsOf (told .sections)) rows _ refl (omega (arith, three, fits .0))
-
-    of-lines : Leaves (length (told .lines)) lines (told .lines ++ drop (length (told .lines)) lines)
-    of-lines = in-front (told .lines) lines _ refl (fits .1)
-
 -- a copy stands in front where it fits, and a refusal writes nothing
-pub copy-leaves : (file dest : List ℕ)
-    → let copied = copyOf licensed file dest in
-    (length (copied .dest) ≡ length dest)
-    × (drop (copyEnd (copied .answer) .written) (copied .dest) ≡ drop (copyEnd (copied .answer) .written) dest)
+pub copy-leaves : CopyLeaves
 unfolding copyOf byOutcome copyEnd stored
 copy-leaves file dest =
     by-test Kept (ltb 1099511627776 (length file)) (λ _. (refl, refl)) λ _.
@@ -103,10 +97,7 @@ copy-leaves file dest =
     go (outcome.Refused why place offset) fits = (refl, refl)
 
 -- so does a message
-pub write-leaves : (discipline reserved₁ reserved₂ : ℕ) (plan store dest : List ℕ)
-    → let wrote = writeOf discipline reserved₁ reserved₂ plan store dest in
-    (length (wrote .dest) ≡ length dest)
-    × (drop (writeEnd (wrote .answer) .written) (wrote .dest) ≡ drop (writeEnd (wrote .answer) .written) dest)
+pub write-leaves : WriteLeaves
 unfolding writeOf destOf writeEnd stored
 write-leaves discipline reserved₁ reserved₂ plan store dest = go (judgedPlan (partsOf plan) (length store) (length dest)) refl
   where

@@ -15,9 +15,28 @@ use Rattle.writer.specs.Plan.{Part, Finding, noFault, faultAt, mostSections, pl
 use Rattle.writer.specs.Write.{writeOf}
 use Rattle.writer.specs.declared.Written.{Written}
 use Rattle.writer.specs.declared.Written.the-variants.{Whole, TooManySections, NotOneMessage, OutsideStore, PayloadSize, NoRoom}
-use Rattle.round_trip.specs.Faults.{FirstAt, AtNone, OneMessage, FirstMisfit, Outside, WrongSize, TooLarge, GivenWhen}
+use Rattle.round_trip.specs.Faults.{FirstAt, AtNone, OneMessage, FirstMisfit, Outside, WrongSize, TooLarge}
 use Rattle.round_trip.proofs.First.{outside-iff, inside-iff, wrong-iff, sized-iff}
 use Rattle.round_trip.proofs.Ordered.{misfit-iff, message-iff, not-one-iff}
+
+-- 01's column "Given exactly when", of a plan with a store and a destination of so many octets: a
+-- check is made where all before it passed
+abbrev pub GivenWhen : List Part → ℕ → ℕ → Written → Type 0
+GivenWhen parts store room TooManySections = mostSections < length parts
+GivenWhen parts store room (NotOneMessage at) =
+    (length parts ≤ mostSections) × FirstMisfit parts (at .0)
+GivenWhen parts store room (OutsideStore at) =
+    (length parts ≤ mostSections) × OneMessage parts × FirstAt (Outside store) parts (at .0)
+GivenWhen parts store room (PayloadSize at) =
+    (length parts ≤ mostSections) × OneMessage parts × AtNone (Outside store) parts
+    × FirstAt WrongSize parts (at .0)
+GivenWhen parts store room NoRoom =
+    (length parts ≤ mostSections) × OneMessage parts × AtNone (Outside store) parts
+    × AtNone WrongSize parts × TooLarge parts room
+GivenWhen parts store room (Whole total) =
+    (length parts ≤ mostSections) × OneMessage parts × AtNone (Outside store) parts
+    × AtNone WrongSize parts × (totalOf parts ≤ room) × (totalOf parts ≤ mostOctets)
+    × (total ≡ totalOf parts)
 
 module _ (parts : List Part) (store room : ℕ) where
   abbrev Given : Written → Type 0

@@ -12,15 +12,6 @@ use Rattle.order.specs.declared.Order.the-variants.{AfterIndicator}
 use Rattle.order.specs.declared.Judged.the-variants.{Fits, Closes, Misplaced, NoGrid}
 use Rattle.index.specs.Bounds.{mostOctets}
 use Rattle.writer.specs.Plan.{Part, mostSections, mostPayload, totalOf}
-use Rattle.writer.specs.declared.Written.{Written}
-use Rattle.writer.specs.declared.Written.the-variants.{
-  Whole,
-  TooManySections,
-  NotOneMessage,
-  OutsideStore,
-  PayloadSize,
-  NoRoom,
-}
 
 -- the section at a place of a plan
 abbrev pub partAt : List Part → ℕ → Part
@@ -92,21 +83,23 @@ WrongSize part = UnderItsLeast part ⊎ (mostPayload < part .length)
 abbrev pub TooLarge : List Part → ℕ → Type 0
 TooLarge parts room = (room < totalOf parts) ⊎ (mostOctets < totalOf parts)
 
--- 01's column "Given exactly when", of a plan with a store and a destination of so many octets: a
--- check is made where all before it passed
-abbrev pub GivenWhen : List Part → ℕ → ℕ → Written → Type 0
-GivenWhen parts store room TooManySections = mostSections < length parts
-GivenWhen parts store room (NotOneMessage at) =
-    (length parts ≤ mostSections) × FirstMisfit parts (at .0)
-GivenWhen parts store room (OutsideStore at) =
-    (length parts ≤ mostSections) × OneMessage parts × FirstAt (Outside store) parts (at .0)
-GivenWhen parts store room (PayloadSize at) =
-    (length parts ≤ mostSections) × OneMessage parts × AtNone (Outside store) parts
-    × FirstAt WrongSize parts (at .0)
-GivenWhen parts store room NoRoom =
-    (length parts ≤ mostSections) × OneMessage parts × AtNone (Outside store) parts
-    × AtNone WrongSize parts × TooLarge parts room
-GivenWhen parts store room (Whole total) =
-    (length parts ≤ mostSections) × OneMessage parts × AtNone (Outside store) parts
-    × AtNone WrongSize parts × (totalOf parts ≤ room) × (totalOf parts ≤ mostOctets)
-    × (total ≡ totalOf parts)
+-- number and detail of a plan's refusal, with a store and a destination of so many octets: 15, 16,
+-- 17, 18, 19, each over the whole plan before the next
+pub data PlanGiven (parts : List Part) (store room : ℕ) : ℕ → ℕ → Type 0 where
+  tooMany : mostSections < length parts → PlanGiven parts store room 15 0
+  notOneMessage : {at : ℕ} → length parts ≤ mostSections → FirstMisfit parts at
+      → PlanGiven parts store room 16 at
+  outsideStore : {at : ℕ} → length parts ≤ mostSections → OneMessage parts
+      → FirstAt (Outside store) parts at → PlanGiven parts store room 17 at
+  wrongSize : {at : ℕ} → length parts ≤ mostSections → OneMessage parts
+      → AtNone (Outside store) parts → FirstAt WrongSize parts at → PlanGiven parts store room 18 at
+  noRoom : length parts ≤ mostSections → OneMessage parts → AtNone (Outside store) parts
+      → AtNone WrongSize parts → TooLarge parts room → PlanGiven parts store room 19 0
+
+-- a plan that is written: none of these is given
+pub record PlanTaken (parts : List Part) (store room : ℕ) : Type 0 where
+  pub few : length parts ≤ mostSections
+  pub one-message : OneMessage parts
+  pub inside-store : AtNone (Outside store) parts
+  pub sound-sizes : AtNone WrongSize parts
+  pub not-too-large : TooLarge parts room → ⊥

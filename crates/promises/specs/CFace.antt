@@ -1,0 +1,45 @@
+-- The decoded fields of a listed section as the C face gives them: as numbers, with `known` of 1 or
+-- 0 beside each that can be none (01, "Fields").
+use mathlib.Core.List.{List}
+use Prim.Native.Nat.{ℕ}
+use lib.Dec.{eqb}
+use Rattle.octets.specs.Words.{pick}
+use Rattle.sections.specs.Indicator.{indicatorOf}
+use Rattle.sections.specs.Identification.{identificationOf}
+use Rattle.sections.specs.GridDefinition.{gridDefinitionOf}
+use Rattle.sections.specs.ReprDefinition.{reprDefinitionOf}
+use Rattle.sections.specs.BitMap.{bitMapOf}
+use Rattle.framing.specs.declared.read.Section.{Section}
+use Rattle.blindness.specs.Agree.{ownOctets, payloadOf}
+use Rattle.buttresk.specs.Fields as fields
+use Rattle.buttresk.specs.Product.{productFields}
+use Rattle.buttresk.specs.declared.fields.IndicatorFields.{IndicatorFields}
+use Rattle.buttresk.specs.declared.fields.IdentificationFields.{IdentificationFields}
+use Rattle.buttresk.specs.declared.fields.GridFields.{GridFields}
+use Rattle.buttresk.specs.declared.fields.RepresentationFields.{RepresentationFields}
+use Rattle.buttresk.specs.declared.fields.BitMapFields.{BitMapFields}
+use Rattle.buttresk.specs.declared.product.ProductFields.{ProductFields}
+
+-- the fields of one section
+pub data FaceFields : Type 0 where
+  indicatorFace : IndicatorFields → FaceFields
+  identificationFace : IdentificationFields → FaceFields
+  gridFace : GridFields → FaceFields
+  productFace : ProductFields → FaceFields
+  representationFace : RepresentationFields → FaceFields
+  bitMapFace : BitMapFields → FaceFields
+  noFace : FaceFields
+
+-- by its number, of its octets or of those behind its header
+unfoldable pub faceOf : List ℕ → Section → FaceFields
+faceOf file s =
+    let payload = payloadOf file s in
+    pick (eqb (s .number) 0) (indicatorFace (fields.indicatorFields (indicatorOf (ownOctets file s))))
+    (pick (eqb (s .number) 1)
+    (identificationFace (fields.identificationFields (identificationOf payload)))
+    (pick (eqb (s .number) 3) (gridFace (fields.gridFields (gridDefinitionOf payload)))
+    (pick (eqb (s .number) 4) (productFace (productFields payload))
+    (pick (eqb (s .number) 5)
+    (representationFace (fields.representationFields (reprDefinitionOf payload)))
+    (pick (eqb (s .number) 6) (bitMapFace (fields.bitMapFields (bitMapOf payload)))
+    noFace)))))
