@@ -14,7 +14,7 @@ use Rattle.as_the_crate.specs.Encoder.{
   _⊞_,
   sumFrom,
   sum,
-  Result,
+  WriteResult,
   Ok,
   _then_,
   each,
@@ -138,11 +138,11 @@ holds-first a b holds =
     record { room = omega arith; small = omega arith }
 
 -- sections in a buffer
-abbrev pub stands : List (ℕ × List ℕ) → List ℕ → Result
+abbrev pub stands : List (ℕ × List ℕ) → List ℕ → WriteResult
 stands sections buf = wrote (framed sections) buf
 
 -- a function writes these sections
-abbrev pub WritesSections : (List ℕ → Result) → List (ℕ × List ℕ) → Type 0
+abbrev pub WritesSections : (List ℕ → WriteResult) → List (ℕ × List ℕ) → Type 0
 WritesSections write sections = (buf : List ℕ) → Holds buf sections → write buf ≡ stands sections buf
 
 -- nothing is written yet
@@ -151,7 +151,7 @@ unfolding flatMap
 stands-none buf = refl
 
 -- one more function, behind some sections
-then-sections : {r : Result} (write : List ℕ → Result) (done more : List (ℕ × List ℕ)) (buf : List ℕ) → r ≡ stands done buf
+then-sections : {r : WriteResult} (write : List ℕ → WriteResult) (done more : List (ℕ × List ℕ)) (buf : List ℕ) → r ≡ stands done buf
     → WritesSections write more → Holds buf (done ++ more) → (r then write) ≡ stands (done ++ more) buf
 then-sections write done more buf standing writes holds =
     let joined = framed-append done more in
@@ -160,7 +160,7 @@ then-sections write done more buf standing writes holds =
     ∙ ap (λ (all : List ℕ). wrote all buf) (sym joined)
 
 -- and one for each of a list
-each-sections : {A : Type 0} (write : A → List ℕ → Result) (sections : A → List (ℕ × List ℕ)) → ((m : A) → WritesSections (write m) (sections m))
+each-sections : {A : Type 0} (write : A → List ℕ → WriteResult) (sections : A → List (ℕ × List ℕ)) → ((m : A) → WritesSections (write m) (sections m))
     → (items : List A) (done : List (ℕ × List ℕ)) (buf : List ℕ) → Holds buf (done ++ flatMap sections items)
     → each write items (stands done buf) ≡ stands (done ++ flatMap sections items) buf
 each-sections write sections writes items done buf holds =

@@ -10,7 +10,7 @@ use lib.Seq.{take-at, drop-at, drop-drop}
 use borrow.Author.Tests.{ltb-false, lt-ltb, le-ltb, eq-eqb}
 use Rattle.octets.specs.Words.{pick}
 use Rattle.writer.specs.Message.{digits}
-use Rattle.as_the_crate.specs.Encoder.{size, tooLarge, usize, _⊞_, Result, Ok, _then_, copy-from-slice, each, write-to-buffer, to-be-bytes}
+use Rattle.as_the_crate.specs.Encoder.{size, tooLarge, usize, _⊞_, WriteResult, Ok, _then_, copy-from-slice, each, write-to-buffer, to-be-bytes}
 
 -- the numbers of a usize
 abbrev pub usizes : ℕ
@@ -30,15 +30,15 @@ pub enough : {A : Type 0} (short next : A) (room wanted : ℕ) → wanted ≤ ro
 enough short next room wanted holds = ap (λ (t : Bool). pick t short next) (le-ltb room wanted holds)
 
 -- octets put at the front of a buffer
-abbrev pub wrote : List ℕ → List ℕ → Result
+abbrev pub wrote : List ℕ → List ℕ → WriteResult
 wrote octets buf = Ok (length octets) (octets ++ drop (length octets) buf)
 
 -- a function writes these octets at the front of any buffer that holds them
-abbrev pub Frames : (List ℕ → Result) → List ℕ → Type 0
+abbrev pub Frames : (List ℕ → WriteResult) → List ℕ → Type 0
 Frames write octets = (buf : List ℕ) → length octets ≤ length buf → length octets < usizes → write buf ≡ wrote octets buf
 
 -- one more function, after some octets
-pub then-frames : {r : Result} (write : List ℕ → Result) (done octets buf : List ℕ) → r ≡ wrote done buf → Frames write octets
+pub then-frames : {r : WriteResult} (write : List ℕ → WriteResult) (done octets buf : List ℕ) → r ≡ wrote done buf → Frames write octets
     → length (done ++ octets) ≤ length buf → length (done ++ octets) < usizes → (r then write) ≡ wrote (done ++ octets) buf
 then-frames write done octets buf standing frames room small =
     let n = length done in
@@ -55,7 +55,7 @@ then-frames write done octets buf standing frames room small =
     (ap (Ok (n + k)) (sym (append-assoc done octets (drop (n + k) buf))))
 
 -- and one for each of a list
-pub each-frames : {A : Type 0} (write : A → List ℕ → Result) (octets : A → List ℕ) → ((m : A) → Frames (write m) (octets m))
+pub each-frames : {A : Type 0} (write : A → List ℕ → WriteResult) (octets : A → List ℕ) → ((m : A) → Frames (write m) (octets m))
     → (items : List A) (done buf : List ℕ) → length (done ++ flatMap octets items) ≤ length buf
     → length (done ++ flatMap octets items) < usizes → each write items (wrote done buf) ≡ wrote (done ++ flatMap octets items) buf
 unfolding flatMap
@@ -97,7 +97,7 @@ unfolding write-to-buffer
 to-buffer-frames octets buf room small = rw (le-ltb (length buf) (length octets) room)
 
 -- one more field
-pub then-field : {r : Result} (done octets buf : List ℕ) → r ≡ wrote done buf → length (done ++ octets) ≤ length buf
+pub then-field : {r : WriteResult} (done octets buf : List ℕ) → r ≡ wrote done buf → length (done ++ octets) ≤ length buf
     → length (done ++ octets) < usizes → (r then write-to-buffer octets) ≡ wrote (done ++ octets) buf
 then-field done octets buf standing = then-frames (write-to-buffer octets) done octets buf standing (to-buffer-frames octets)
 

@@ -1,3 +1,19 @@
+-- That reading equals the crate's: the search in blocks, one section, the stream of sections, the streams of submessages, tables,
+-- overflows, a whole file in the crate's words and back; then the statements of specs/Equal.antt and specs/Overflow.antt. `Answers` has
+-- answers of the crate itself, by computing.
+pub mod Decide
+pub mod Words
+pub mod Search
+pub mod OneSection
+pub mod Stream
+pub mod Submessages
+pub mod Tables
+pub mod Overflows
+pub mod Whole
+pub mod Back
+pub mod Equal
+pub mod Overflow
+pub mod Answers
 -- The proofs of specs/Writes.antt: `Encoding` of what is written, `EncodingNested` of the plans that are nested messages,
 -- `EncodingDifferences` computed; `WrittenAnswers` holds specs/Encoder.antt to the crate; the others are steps towards them.
 mod EncodingSteps

@@ -7,7 +7,7 @@ use lib.ListN.{replicate}
 use Rattle.as_the_crate.specs.Encoder.{
   Usize,
   size,
-  Result,
+  WriteResult,
   Ok,
   TooSmall,
   Overflows,
@@ -42,10 +42,10 @@ record Asked : Type 0 where
   message : Grib2Message
   room : ℕ
   total : Usize
-  answer : Result
+  answer : WriteResult
   by-reference : Option (List ℕ)
 
-abbrev asked : Grib2Message → ℕ → ℕ → Result → Option (List ℕ) → Asked
+abbrev asked : Grib2Message → ℕ → ℕ → WriteResult → Option (List ℕ) → Asked
 asked message room total answer by-reference =
     record { message = message; room = room; total = size total; answer = answer; by-reference = by-reference }
 
@@ -65,7 +65,7 @@ message discipline reserved₁ reserved₂ one locals =
     record { discipline = discipline; reserved₁ = reserved₁; reserved₂ = reserved₂; section1 = one; iter = locals }
 
 -- a buffer that was written
-abbrev writtenIn : Result → Option (List ℕ)
+abbrev writtenIn : WriteResult → Option (List ℕ)
 writtenIn (Ok octets buf) = some buf
 writtenIn (TooSmall buf) = none
 writtenIn Overflows = none

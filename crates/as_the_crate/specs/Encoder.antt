@@ -41,19 +41,19 @@ sum = sumFrom (size 0)
 -- Result<usize, &'static str> of a function that is lent a buffer, with the buffer as it is left:
 -- Ok(octets), or Err("destination buffer is too small"), the one error of these files; or a panic,
 -- at a sum that overflows or at a slice that reaches past its end
-pub data Result : Type 0 where
-  Ok : ℕ → List ℕ → Result
-  TooSmall : List ℕ → Result
-  Overflows : Result
-  OutOfRange : Result
+pub data WriteResult : Type 0 where
+  Ok : ℕ → List ℕ → WriteResult
+  TooSmall : List ℕ → WriteResult
+  Overflows : WriteResult
+  OutOfRange : WriteResult
 
 -- a length that is wanted next
-abbrev pub having : Usize → (ℕ → Result) → Result
+abbrev pub having : Usize → (ℕ → WriteResult) → WriteResult
 having (size n) more = more n
 having tooLarge more = Overflows
 
 -- what a function left of a part of a buffer, with the `pos` octets before it
-abbrev pub added : ℕ → List ℕ → Result → Result
+abbrev pub added : ℕ → List ℕ → WriteResult → WriteResult
 added pos before (Ok octets part) =
     pick (ltb (pos + octets) 18446744073709551616) (Ok (pos + octets) (before ++ part)) Overflows
 added pos before (TooSmall part) = TooSmall (before ++ part)
@@ -62,7 +62,7 @@ added pos before OutOfRange = OutOfRange
 
 -- pos += write(&mut buf[pos..])?;
 infixl 50 _then_
-abbrev pub _then_ : Result → (List ℕ → Result) → Result
+abbrev pub _then_ : WriteResult → (List ℕ → WriteResult) → WriteResult
 Ok pos buf then write =
     pick (ltb (length buf) pos) OutOfRange (added pos (take pos buf) (write (drop pos buf)))
 TooSmall buf then write = TooSmall buf
@@ -70,12 +70,12 @@ Overflows then write = Overflows
 OutOfRange then write = OutOfRange
 
 -- for m in self.iter() { pos += m.write(&mut buf[pos..])?; }
-abbrev pub each : {A : Type 0} → (A → List ℕ → Result) → List A → Result → Result
+abbrev pub each : {A : Type 0} → (A → List ℕ → WriteResult) → List A → WriteResult → WriteResult
 each write [] done = done
 each write (m ∷ more) done = each write more (done then write m)
 
 -- WriteToBuffer for [u8; N], and for a u8, which is one octet
-unfoldable pub write-to-buffer : List ℕ → List ℕ → Result
+unfoldable pub write-to-buffer : List ℕ → List ℕ → WriteResult
 write-to-buffer octets buf =
     pick (ltb (length buf) (length octets)) (TooSmall buf)
     (Ok (length octets) (octets ++ drop (length octets) buf))
@@ -90,7 +90,7 @@ pub record SectionHeader : Type 0 where
   pub len : ℕ
   pub sect-num : ℕ
 
-unfoldable pub SectionHeader·write-to-buffer : SectionHeader → List ℕ → Result
+unfoldable pub SectionHeader·write-to-buffer : SectionHeader → List ℕ → WriteResult
 SectionHeader·write-to-buffer header buf =
     Ok 0 buf then write-to-buffer (to-be-bytes 4 (header .len))
     then write-to-buffer (header .sect-num ∷ [])
@@ -103,7 +103,7 @@ pub record Section0 : Type 0 where
   pub edition-num : ℕ
   pub total-len : ℕ
 
-unfoldable pub Section0·write-to-buffer : Section0 → List ℕ → Result
+unfoldable pub Section0·write-to-buffer : Section0 → List ℕ → WriteResult
 Section0·write-to-buffer sect buf =
     Ok 0 buf then write-to-buffer (sect .identifier) then write-to-buffer (sect .reserved)
     then write-to-buffer (sect .discipline ∷ []) then write-to-buffer (sect .edition-num ∷ [])
@@ -117,7 +117,7 @@ abbrev pub sect8-es-size : ℕ
 sect8-es-size = 4
 
 -- message.rs, fn write_section0
-unfoldable pub write-section0 : ℕ → List ℕ → ℕ → List ℕ → Result
+unfoldable pub write-section0 : ℕ → List ℕ → ℕ → List ℕ → WriteResult
 write-section0 discipline reserved len buf =
     pick (ltb (length buf) sect0-len) (TooSmall buf)
     (Ok 0 buf then Section0·write-to-buffer (record {
@@ -129,13 +129,13 @@ write-section0 discipline reserved len buf =
     }))
 
 -- message.rs, fn write_section8
-unfoldable pub write-section8 : List ℕ → Result
+unfoldable pub write-section8 : List ℕ → WriteResult
 write-section8 buf =
     let signature : List ℕ = 0x37 ∷ 0x37 ∷ 0x37 ∷ 0x37 ∷ [] in
     pick (ltb (length buf) (length signature)) (TooSmall buf) (write-to-buffer signature buf)
 
 -- message.rs, fn write_section_header
-unfoldable pub write-section-header : ℕ → ℕ → List ℕ → Result
+unfoldable pub write-section-header : ℕ → ℕ → List ℕ → WriteResult
 write-section-header len sect-num buf =
     SectionHeader·write-to-buffer (record { len = len; sect-num = sect-num }) buf
 
@@ -144,7 +144,7 @@ unfoldable pub section-len : List ℕ → Usize
 section-len payload = size (length payload) ⊞ size 5
 
 -- buf[pos..len].copy_from_slice(payload); Ok(len)
-abbrev pub copy-from-slice : ℕ → List ℕ → Result → Result
+abbrev pub copy-from-slice : ℕ → List ℕ → WriteResult → WriteResult
 copy-from-slice len payload (Ok pos buf) =
     pick (ltb len pos) OutOfRange
     (pick (ltb (length buf) len) OutOfRange
@@ -155,7 +155,7 @@ copy-from-slice len payload Overflows = Overflows
 copy-from-slice len payload OutOfRange = OutOfRange
 
 -- impls.rs, add_impl_for_u8_slices!, $write_method. `len as u32` keeps the low 32 bits
-unfoldable pub write-section : ℕ → List ℕ → List ℕ → Result
+unfoldable pub write-section : ℕ → List ℕ → List ℕ → WriteResult
 write-section sect-num payload buf =
     having (section-len payload) λ len.
     pick (ltb (length buf) len) (TooSmall buf)
@@ -165,44 +165,44 @@ write-section sect-num payload buf =
 abbrev pub section1-len : List ℕ → Usize
 section1-len = section-len
 
-abbrev pub write-section1 : List ℕ → List ℕ → Result
+abbrev pub write-section1 : List ℕ → List ℕ → WriteResult
 write-section1 = write-section 1
 
 abbrev pub section2-len : List ℕ → Usize
 section2-len = section-len
 
-abbrev pub write-section2 : List ℕ → List ℕ → Result
+abbrev pub write-section2 : List ℕ → List ℕ → WriteResult
 write-section2 = write-section 2
 
 abbrev pub section3-len : List ℕ → Usize
 section3-len = section-len
 
-abbrev pub write-section3 : List ℕ → List ℕ → Result
+abbrev pub write-section3 : List ℕ → List ℕ → WriteResult
 write-section3 = write-section 3
 
 abbrev pub section4-len : List ℕ → Usize
 section4-len = section-len
 
-abbrev pub write-section4 : List ℕ → List ℕ → Result
+abbrev pub write-section4 : List ℕ → List ℕ → WriteResult
 write-section4 = write-section 4
 
 -- in place of the crate's packed sections
 abbrev pub section5-len : List ℕ → Usize
 section5-len = section-len
 
-abbrev pub write-section5 : List ℕ → List ℕ → Result
+abbrev pub write-section5 : List ℕ → List ℕ → WriteResult
 write-section5 = write-section 5
 
 abbrev pub section6-len : List ℕ → Usize
 section6-len = section-len
 
-abbrev pub write-section6 : List ℕ → List ℕ → Result
+abbrev pub write-section6 : List ℕ → List ℕ → WriteResult
 write-section6 = write-section 6
 
 abbrev pub section7-len : List ℕ → Usize
 section7-len = section-len
 
-abbrev pub write-section7 : List ℕ → List ℕ → Result
+abbrev pub write-section7 : List ℕ → List ℕ → WriteResult
 write-section7 = write-section 7
 
 -- trait WriteGrib2PointValues: sections 5, 6 and 7 of a product
@@ -218,7 +218,7 @@ data-sections-len encoded =
     ⊞ section7-len (encoded .section7)
 
 -- encoder.rs, GpvEncoder::write_data_sections
-unfoldable pub write-data-sections : PointValues → List ℕ → Result
+unfoldable pub write-data-sections : PointValues → List ℕ → WriteResult
 write-data-sections encoded buf =
     Ok 0 buf then write-section5 (encoded .section5) then write-section6 (encoded .section6)
     then write-section7 (encoded .section7)
@@ -231,7 +231,7 @@ pub record IterL3 : Type 0 where
 unfoldable pub IterL3·num-octets : IterL3 → Usize
 IterL3·num-octets m = section4-len (m .section4) ⊞ data-sections-len (m .data-sections)
 
-unfoldable pub IterL3·write : IterL3 → List ℕ → Result
+unfoldable pub IterL3·write : IterL3 → List ℕ → WriteResult
 IterL3·write m buf =
     Ok 0 buf then write-section4 (m .section4) then write-data-sections (m .data-sections)
 
@@ -243,7 +243,7 @@ pub record IterL2 : Type 0 where
 unfoldable pub IterL2·num-octets : IterL2 → Usize
 IterL2·num-octets m = section3-len (m .section3) ⊞ sum (map IterL3·num-octets (m .iter))
 
-unfoldable pub IterL2·write : IterL2 → List ℕ → Result
+unfoldable pub IterL2·write : IterL2 → List ℕ → WriteResult
 IterL2·write m buf =
     each IterL3·write (m .iter) (Ok 0 buf then write-section3 (m .section3))
 
@@ -258,14 +258,14 @@ len-if-some none = size 0
 len-if-some (some section2) = section2-len section2
 
 -- if let Some(section2) = self.section2() { pos += section2.write_section2(&mut buf[pos..])?; }
-abbrev pub write-if-some : Option (List ℕ) → Result → Result
+abbrev pub write-if-some : Option (List ℕ) → WriteResult → WriteResult
 write-if-some none done = done
 write-if-some (some section2) done = done then write-section2 section2
 
 unfoldable pub IterL1·num-octets : IterL1 → Usize
 IterL1·num-octets m = len-if-some (m .section2) ⊞ sum (map IterL2·num-octets (m .iter))
 
-unfoldable pub IterL1·write : IterL1 → List ℕ → Result
+unfoldable pub IterL1·write : IterL1 → List ℕ → WriteResult
 IterL1·write m buf = each IterL2·write (m .iter) (write-if-some (m .section2) (Ok 0 buf))
 
 -- trait WriteGrib2Message; `reserved` is an array of two
@@ -281,7 +281,7 @@ Grib2Message·num-octets m =
     size sect0-len ⊞ section1-len (m .section1) ⊞ sum (map IterL1·num-octets (m .iter))
     ⊞ size sect8-es-size
 
-unfoldable pub Grib2Message·write : Grib2Message → List ℕ → Result
+unfoldable pub Grib2Message·write : Grib2Message → List ℕ → WriteResult
 Grib2Message·write m buf =
     having (Grib2Message·num-octets m) λ total-len.
     pick (ltb (length buf) total-len) (TooSmall buf)

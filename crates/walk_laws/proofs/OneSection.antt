@@ -42,7 +42,7 @@ use Rattle.walk_laws.specs.ExactlyWhen.{
   LinesFull,
   rowsAfterRead,
   orderAfter,
-  linesAfter,
+  linesBehind,
 }
 use Rattle.walk_laws.proofs.Rows.{first-same, first-holds}
 
@@ -112,7 +112,7 @@ stands SubmessageStart n =
     misplaced (⊎-elim (eqb-false n 2 e2) (⊎-elim (eqb-false n 3 e3) (eqb-false n 4 e4))) grid
 
 -- behind a section that completes nothing and closes nothing no line is told
-no-line : (order : Order) (n lines : ℕ) → completes order n ≡ false → Not (ClosesMessage order n) → linesAfter order lines ≡ lines
+no-line : (order : Order) (n lines : ℕ) → completes order n ≡ false → Not (ClosesMessage order n) → linesBehind order lines ≡ lines
 no-line BetweenMessages n lines off ajar = refl
 no-line AfterIndicator n lines off ajar = refl
 no-line AfterIdentification n lines off ajar = refl
@@ -127,7 +127,7 @@ no-line SubmessageStart n lines off ajar = refl
 -- what is reached by a section that is passed
 pub record Arrives (r : Reached) (s : Section) (reached : Reached) : Type 0 where
   pub one : reached .sections ≡ r .sections + 1
-  pub lines : reached .lines ≡ linesAfter (r .order) (r .lines)
+  pub lines : reached .lines ≡ linesBehind (r .order) (r .lines)
   pub order : reached .order ≡ orderAfter (s .number)
   pub last : reached .last ≡ here r s
 
@@ -150,7 +150,7 @@ module _ (room : Room) (r : Reached) (s : Section) where
   -- where no line of a submessage that goes on is due, or there is room for it
   module _ (no14 : Not (GoesOn (r .order) (s .number) × LinesFull room (standOf 0 0 r))) (r′ : Reached) (same : r′ .sections ≡ r .sections)
       (due : ClosesMessage (r .order) (s .number) → r′ .lines ≡ r .lines)
-      (told : Not (ClosesMessage (r .order) (s .number)) → r′ .lines ≡ linesAfter (r .order) (r .lines)) where
+      (told : Not (ClosesMessage (r .order) (s .number)) → r′ .lines ≡ linesBehind (r .order) (r .lines)) where
     judges-order : (j : Judged) (lines : List Line) → Stands (r .order) (s .number) j → J (byOrder j room r′ s lines)
     unfolding byOrder fitted closing refusalNumber refusalDetail
     judges-order (says.Fits next) lines (fits leads can grid ajar) =

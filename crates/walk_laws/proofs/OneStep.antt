@@ -23,15 +23,15 @@ use Rattle.order.specs.declared.Verdict.the-variants as verdict
 use Rattle.index.specs.Numbers.{faultNumber, faultDetail}
 use Rattle.walk_laws.specs.ExactlyWhen.{CannotBeRead, WellRead, NoneInHand, sectionOf, CanCome, NoGridYet, ClosesMessage, orderAfter}
 use Rattle.walk_laws.specs.OneStep.{
-  ReadAs,
+  ReadNumbers,
   aSection,
   noInput,
   refusedBy,
-  readAs,
+  readNumbers,
   fitsBefore,
   closesIt,
   misfits,
-  judgedAs,
+  judgedNumbers,
   JudgedByRows,
   OrderEnd,
   orderEnd,
@@ -53,24 +53,24 @@ use Rattle.walk_laws.proofs.OneSection.{Stands, fits, closes, misplaced
 use Rattle.walk_laws.proofs.WholeWalk.{Said, said, not-between}
 
 pub one-read-exactly-when : OneReadExactlyWhen
-unfolding readAs
+unfolding readNumbers
 one-read-exactly-when file at rest =
     record {
       refuses = λ n offset d. (
         refused (readAt file at rest) (tells file at rest),
         λ u.
             let k = refused-there file at rest n offset d u in
-            ap readAs (k .refuses) ∙ rw (← k .numbered, ← k .detailed) refl,
+            ap readNumbers (k .refuses) ∙ rw (← k .numbered, ← k .detailed) refl,
       );
       reads = λ number offset octets next rest′. (
         section (readAt file at rest) (tells file at rest),
         λ h.
-            ap readAs (section-there file at rest (sectionOf number offset octets) rest′ (h .0)) ∙ rw (h .1) refl,
+            ap readNumbers (section-there file at rest (sectionOf number offset octets) rest′ (h .0)) ∙ rw (h .1) refl,
       );
-      ends = (ended (readAt file at rest) (tells file at rest), λ none. ap readAs (none-read file at rest none));
+      ends = (ended (readAt file at rest) (tells file at rest), λ none. ap readNumbers (none-read file at rest none));
     }
   where
-    refused : {n offset d : ℕ} (x : Read) → Tells file at rest x → readAs x ≡ refusedBy n offset d → CannotBeRead file at rest n offset d
+    refused : {n offset d : ℕ} (x : Read) → Tells file at rest x → readNumbers x ≡ refusedBy n offset d → CannotBeRead file at rest n offset d
     refused {n} {offset} {d} _ (refuses {fault} {o} u) e =
         let a : faultNumber fault ≡ n = cc in
         let b : o ≡ offset = cc in
@@ -80,7 +80,7 @@ one-read-exactly-when file at rest =
     refused _ (over none) e = let z : _≡_ {A = ℕ} 0 1 = cc in absurd (omega arith)
 
     section : {number offset octets next rest′ : ℕ} (x : Read) → Tells file at rest x
-        → readAs x ≡ aSection number offset octets next rest′
+        → readNumbers x ≡ aSection number offset octets next rest′
         → WellRead file at rest (sectionOf number offset octets) rest′ × (next ≡ offset + octets)
     section _ (refuses u) e = let z : _≡_ {A = ℕ} 0 1 = cc in absurd (omega arith)
     section {number} {offset} {octets} {next} {rest′} _ (reads {s} {rest′ = left} w) e =
@@ -92,7 +92,7 @@ one-read-exactly-when file at rest =
         (rw (← a, ← b, ← c, ← f) w, omega arith)
     section _ (over none) e = let z : _≡_ {A = ℕ} 0 1 = cc in absurd (omega arith)
 
-    ended : (x : Read) → Tells file at rest x → readAs x ≡ noInput → NoneInHand file at rest
+    ended : (x : Read) → Tells file at rest x → readNumbers x ≡ noInput → NoneInHand file at rest
     ended _ (refuses u) e = let z : _≡_ {A = ℕ} 0 1 = cc in absurd (omega arith)
     ended _ (reads w) e = let z : _≡_ {A = ℕ} 0 1 = cc in absurd (omega arith)
     ended _ (over none) e = none
@@ -106,10 +106,10 @@ closes-can : (order : Order) (n : ℕ) → ClosesMessage order n → CanCome ord
 closes-can order n (after, eight) = subst (λ (o : Order). CanCome o n) (sym after) (inl eight)
 
 pub one-judgement-exactly-when : OneJudgementExactlyWhen
-unfolding judgedAs
+unfolding judgedNumbers
 one-judgement-exactly-when order number = go (judged order number) (stands order number)
   where
-    go : (j : Judged) → Stands order number j → JudgedByRows order number (judgedAs j)
+    go : (j : Judged) → Stands order number j → JudgedByRows order number (judgedNumbers j)
     go _ (fits {next} leads can grid ajar) =
         record {
           fits = λ other. ((λ e. let same : next ≡ other = cc in (can, ajar, sym same ∙ leads)), λ h. ap fitsBefore (leads ∙ sym (h .2)));

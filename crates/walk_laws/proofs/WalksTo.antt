@@ -12,7 +12,7 @@ use Rattle.index.specs.declared.line.Line.{Line}
 use Rattle.index.specs.declared.bounds.Room.{Room}
 use Rattle.index.specs.Walk.{Reached, atStart, passes, judgement}
 use Rattle.walk_laws.specs.Rows.{NoRow}
-use Rattle.walk_laws.specs.ExactlyWhen.{Stand, rowsAfterRead, linesAfter, WellRead, Comes, started, goesFurther}
+use Rattle.walk_laws.specs.ExactlyWhen.{Stand, rowsAfterRead, linesBehind, WellRead, Comes, started, goesFurther}
 use Rattle.walk_laws.proofs.OneRead.{Tells, reads, tells, section-there}
 use Rattle.walk_laws.proofs.OneSection.{standOf, Arrives, Judges, goes, judges, passed-there}
 
@@ -87,7 +87,7 @@ comes-walks-to {room} {file} (goesFurther {b} {s} {rest′} before well none) =
       reaches = stepOn (at .reaches) (section-there file (b .at) (b .rest) s rest′ well) (gone .goes);
       stood =
           same-stand _ _ rest′ _ _ _ _ _ _ refl (arrives .one ∙ ap (λ (b : Stand). b .sections + 1) stood)
-          (arrives .lines ∙ ap (λ (b : Stand). linesAfter (b .order) (b .lines)) stood) (arrives .order)
+          (arrives .lines ∙ ap (λ (b : Stand). linesBehind (b .order) (b .lines)) stood) (arrives .order)
           (ap (λ (l : _). l .section .offset .0) (arrives .last));
     }
 

@@ -236,17 +236,17 @@ orderAfter n =
 
 -- a section that is passed behind a 7 tells a line, of a submessage that goes on or of one that is
 -- its message's last
-abbrev pub linesAfter : Order → ℕ → ℕ
-linesAfter AfterData lines = lines + 1
-linesAfter BetweenMessages lines = lines
-linesAfter AfterIndicator lines = lines
-linesAfter AfterIdentification lines = lines
-linesAfter AfterLocalUse lines = lines
-linesAfter AfterGrid lines = lines
-linesAfter AfterProduct lines = lines
-linesAfter AfterRepresentation lines = lines
-linesAfter AfterBitMap lines = lines
-linesAfter SubmessageStart lines = lines
+abbrev pub linesBehind : Order → ℕ → ℕ
+linesBehind AfterData lines = lines + 1
+linesBehind BetweenMessages lines = lines
+linesBehind AfterIndicator lines = lines
+linesBehind AfterIdentification lines = lines
+linesBehind AfterLocalUse lines = lines
+linesBehind AfterGrid lines = lines
+linesBehind AfterProduct lines = lines
+linesBehind AfterRepresentation lines = lines
+linesBehind AfterBitMap lines = lines
+linesBehind SubmessageStart lines = lines
 
 -- before the first read
 abbrev pub fileStart : Stand
@@ -254,13 +254,13 @@ fileStart =
     record { at = 0; rest = 0; sections = 0; lines = 0; order = BetweenMessages; last = 0 }
 
 -- a section is passed: the next read is made at its end
-abbrev pub passedBy : Stand → Section → ℕ → Stand
-passedBy b s rest′ =
+abbrev pub standBehind : Stand → Section → ℕ → Stand
+standBehind b s rest′ =
     record {
       at = s .offset .0 + s .length;
       rest = rest′;
       sections = b .sections + 1;
-      lines = linesAfter (b .order) (b .lines);
+      lines = linesBehind (b .order) (b .lines);
       order = orderAfter (s .number);
       last = s .offset .0;
     }
@@ -272,7 +272,7 @@ pub data Comes (room : Room) (file : List ℕ) : Stand → Type 0 where
       → Comes room file b
       → WellRead file (b .at) (b .rest) s rest′
       → NoRow (rowsAfterRead room b (s .number))
-      → Comes room file (passedBy b s rest′)
+      → Comes room file (standBehind b s rest′)
 
 -- number, place, offset and detail of a refusal: for 1 zeros; for 2 to 9 those that the section in
 -- hand would have; for 10 those of the last section read; for 11 to 14 those of the section just

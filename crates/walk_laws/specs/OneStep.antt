@@ -29,19 +29,19 @@ use Rattle.walk_laws.specs.ExactlyWhen.{
 
 -- a read: a section's number, offset and length, where the next read is made and with how many
 -- octets of the message to come; the input over; or a refusal's number, offset and detail
-pub data ReadAs : Type 0 where
-  aSection : ℕ → ℕ → ℕ → ℕ → ℕ → ReadAs
-  noInput : ReadAs
-  refusedBy : ℕ → ℕ → ℕ → ReadAs
+pub data ReadNumbers : Type 0 where
+  aSection : ℕ → ℕ → ℕ → ℕ → ℕ → ReadNumbers
+  noInput : ReadNumbers
+  refusedBy : ℕ → ℕ → ℕ → ReadNumbers
 
-unfoldable pub readAs : Read → ReadAs
-readAs (read.Section s next) =
+unfoldable pub readNumbers : Read → ReadNumbers
+readNumbers (read.Section s next) =
     aSection (s .number) (s .offset .0) (s .length) (next .at .0) (next .rest)
-readAs read.Over = noInput
-readAs (read.Refused fault offset) = refusedBy (faultNumber fault) (offset .0) (faultDetail fault)
+readNumbers read.Over = noInput
+readNumbers (read.Refused fault offset) = refusedBy (faultNumber fault) (offset .0) (faultDetail fault)
 
 -- it is that of a place with so many octets of the message to come, by the rows
-pub record ReadByRows (file : List ℕ) (at rest : ℕ) (as-read : ReadAs) : Type 0 where
+pub record ReadByRows (file : List ℕ) (at rest : ℕ) (as-read : ReadNumbers) : Type 0 where
   pub refuses : (n offset d : ℕ)
       → Iff (as-read ≡ refusedBy n offset d) (CannotBeRead file at rest n offset d)
   pub reads : (number offset octets next rest′ : ℕ)
@@ -51,19 +51,19 @@ pub record ReadByRows (file : List ℕ) (at rest : ℕ) (as-read : ReadAs) : Typ
 
 -- a judgement: the section fits, and this is then what was read last; it closes its message; or it
 -- is refused by a number
-pub data JudgedAs : Type 0 where
-  fitsBefore : Order → JudgedAs
-  closesIt : JudgedAs
-  misfits : ℕ → JudgedAs
+pub data JudgedNumbers : Type 0 where
+  fitsBefore : Order → JudgedNumbers
+  closesIt : JudgedNumbers
+  misfits : ℕ → JudgedNumbers
 
-unfoldable pub judgedAs : Judged → JudgedAs
-judgedAs (judged.Fits next) = fitsBefore next
-judgedAs judged.Closes = closesIt
-judgedAs judged.Misplaced = misfits 11
-judgedAs judged.NoGrid = misfits 12
+unfoldable pub judgedNumbers : Judged → JudgedNumbers
+judgedNumbers (judged.Fits next) = fitsBefore next
+judgedNumbers judged.Closes = closesIt
+judgedNumbers judged.Misplaced = misfits 11
+judgedNumbers judged.NoGrid = misfits 12
 
 -- it is that of a number after what was read last, by the rows
-pub record JudgedByRows (order : Order) (number : ℕ) (as-judged : JudgedAs) : Type 0 where
+pub record JudgedByRows (order : Order) (number : ℕ) (as-judged : JudgedNumbers) : Type 0 where
   pub fits : (next : Order)
       → Iff (as-judged ≡ fitsBefore next)
       (CanCome order number × Not (ClosesMessage order number) × (next ≡ orderAfter number))
@@ -114,11 +114,11 @@ pub data OrderGiven : List ℕ → ℕ → ℕ → ℕ → Type 0 where
 -- One read, one judgement, one bare list.
 abbrev pub OneReadExactlyWhen : Type 0
 OneReadExactlyWhen =
-    (file : List ℕ) (at rest : ℕ) → ReadByRows file at rest (readAs (readAt file at rest))
+    (file : List ℕ) (at rest : ℕ) → ReadByRows file at rest (readNumbers (readAt file at rest))
 
 abbrev pub OneJudgementExactlyWhen : Type 0
 OneJudgementExactlyWhen =
-    (order : Order) (number : ℕ) → JudgedByRows order number (judgedAs (judged order number))
+    (order : Order) (number : ℕ) → JudgedByRows order number (judgedNumbers (judged order number))
 
 abbrev pub OneOrderExactlyWhen : Type 0
 OneOrderExactlyWhen =

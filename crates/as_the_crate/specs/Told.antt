@@ -1,0 +1,148 @@
+-- What the crate grib 0.20.2 tells of a file, and the same in this library's words: a section, a
+-- submessage's line, how many messages are closed, an outcome.
+use Prim.Native.Nat.{ℕ, _+_, _*_}
+use mathlib.Core.List.{List, [], _∷_, map}
+use lib.Dec.{eqb}
+use lib.ListN.{length, getD}
+use Rattle.octets.specs.Words.{pick}
+use Rattle.framing.specs.declared.read.Section.{Section}
+use Rattle.framing.specs.declared.read.Fault.{Fault}
+use Rattle.framing.specs.declared.read.Fault.the-variants as fault
+use Rattle.index.specs.Lines.{place}
+use Rattle.index.specs.declared.line.LocalUsePlace.{LocalUsePlace}
+use Rattle.index.specs.declared.line.LocalUsePlace.the-variants.{At, Absent}
+use Rattle.index.specs.declared.line.Line.{Line}
+use Rattle.index.specs.declared.refusal.Refusal.{Refusal}
+use Rattle.index.specs.declared.refusal.Refusal.the-variants as refusal
+use Rattle.index.specs.declared.refusal.Outcome.{Outcome}
+use Rattle.index.specs.declared.refusal.Outcome.the-variants as outcome
+use Rattle.index.specs.Walk.{Told}
+use Rattle.as_the_crate.specs.Std.{
+  ParseError,
+  ReadError,
+  GRIBVersionMismatch,
+  UnknownSectionNumber,
+  EndSectionMismatch,
+  SectionSizeTooSmall,
+  UnexpectedEndOfData,
+  InvalidSectionOrder,
+  NoGridDefinition,
+  Dropped,
+  Option,
+  some,
+  nothing,
+  SectionInfo,
+  info,
+}
+use Rattle.as_the_crate.specs.Reader.{Grib2SectionStream·new, Grib2SectionStream·next}
+use Rattle.as_the_crate.specs.Parser.{
+  Keeping,
+  positions,
+  infos,
+  Submessage,
+  SubmessageStream·new,
+  fresh-locals,
+  Finish,
+  clean,
+  fails,
+  overflow,
+  unended,
+  Collected,
+  collected,
+}
+
+-- one of the crate's two streams of submessages over its Grib2SectionStream, on a file: two turns
+-- a section, and no file has more sections than octets
+unfoldable pub streamed : {K : Type 0} → Keeping K → List ℕ → Collected K
+streamed κ file =
+    collected κ (Grib2SectionStream·next file) (2 * (length file + 1) + 2)
+    (SubmessageStream·new κ Grib2SectionStream·new) (fresh-locals κ)
+
+-- the crate on a file, with places: Grib2SubmessageIndexStream
+abbrev pub theRust : List ℕ → Collected ℕ
+theRust file = streamed positions file
+
+-- and with the sections themselves: Grib2SubmessageStream
+abbrev pub thePublicRust : List ℕ → Collected SectionInfo
+thePublicRust file = streamed infos file
+
+-- a section
+abbrev pub sectionIn : SectionInfo → Section
+sectionIn s = record { number = s .num; offset = record { 0 = s .offset }; length = s .size }
+
+-- whether there is a section 2, and where
+abbrev pub localIn : Option ℕ → LocalUsePlace
+localIn (some pos) = At (place pos)
+localIn nothing = Absent
+
+-- a submessage's line
+abbrev pub lineIn : Submessage ℕ → Line
+lineIn s =
+    record {
+      message = s .message;
+      submessage = s .submessage;
+      indicator = place (s .sect0);
+      identification = place (s .sect1);
+      local = localIn (s .sect2);
+      grid = place (s .sect3);
+      product = place (s .sect4);
+      representation = place (s .sect5);
+      bitmap = place (s .sect6);
+      values = place (s .sect7);
+      end = place (s .sect8);
+    }
+
+-- a message is closed at each section 8
+abbrev pub closedIn : List SectionInfo → ℕ
+closedIn [] = 0
+closedIn (s ∷ more) = pick (eqb (s .num) 8) 1 0 + closedIn more
+
+-- why, where (place) and at which offset
+abbrev pub refusedIn : Refusal → ℕ → ℕ → Outcome
+refusedIn why at offset = outcome.Refused why (place at) (record { 0 = offset })
+
+-- a section that can't be read: the crate tells neither place nor offset. The place is the count of
+-- sections that passed, the offset is where it began
+abbrev pub unreadIn : List SectionInfo → Dropped → Fault → Outcome
+unreadIn passed dropped fault =
+    refusedIn (refusal.Unreadable fault) (length passed) (dropped .began)
+
+-- an error. Of 10 the crate tells the place, which is that of the last section that passed; of 11
+-- and 12 too, where the offset and the number are those of the section in hand
+abbrev pub errorIn : List SectionInfo → ParseError → Dropped → Outcome
+errorIn passed ReadError dropped = unreadIn passed dropped fault.Cut
+errorIn passed (GRIBVersionMismatch edition) dropped =
+    unreadIn passed dropped (fault.OtherEdition edition)
+errorIn passed EndSectionMismatch dropped = unreadIn passed dropped fault.NotEndMark
+errorIn passed (UnknownSectionNumber number) dropped =
+    unreadIn passed dropped (fault.UnknownNumber number)
+errorIn passed (SectionSizeTooSmall size) dropped =
+    unreadIn passed dropped (fault.PayloadUnderLeast size)
+errorIn passed (UnexpectedEndOfData pos) dropped =
+    refusedIn refusal.InputOver pos (getD passed pos (info 0 0 0) .offset)
+errorIn passed (InvalidSectionOrder pos) dropped =
+    refusedIn (refusal.Misplaced (dropped .number)) pos (dropped .began)
+errorIn passed (NoGridDefinition pos) dropped =
+    refusedIn (refusal.NoGrid (dropped .number)) pos (dropped .began)
+
+-- an end. An overflow, and no end, are no outcome: in their stead stands 1, which is told of no
+-- file of at most 2^40 octets
+abbrev pub outcomeIn : List SectionInfo → Finish → Outcome
+outcomeIn passed clean = outcome.Clean
+outcomeIn passed (fails e dropped) = errorIn passed e dropped
+outcomeIn passed overflow = refusedIn refusal.FileTooLong 0 0
+outcomeIn passed unended = refusedIn refusal.FileTooLong 0 0
+
+-- all that is collected
+abbrev pub toldIn : Collected ℕ → Told
+toldIn rust =
+    record {
+      sections = map (λ (s : SectionInfo). sectionIn s) (rust .sections);
+      lines = map (λ (s : Submessage ℕ). lineIn s) (rust .submessages);
+      messages = closedIn (rust .sections);
+      outcome = outcomeIn (rust .sections) (rust .end);
+    }
+
+-- what the crate tells of a file
+abbrev pub toldByTheRust : List ℕ → Told
+toldByTheRust file = toldIn (theRust file)
