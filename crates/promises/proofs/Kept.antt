@@ -9,6 +9,10 @@ use Rattle.walk_laws.proofs.OneStep.{one-read-exactly-when, one-judgement-exact
 use Rattle.walk_laws.proofs.Messages.{closed-messages-are-tiled, each-end-closes-a-message, messages-are-ends, no-end-at-place-0}
 use Rattle.walk_laws.proofs.Counts.{within-room, unlimited-is-never-full}
 use Rattle.walk_laws.proofs.Places.{place-is-count, input-over-at-last}
+use Rattle.as_the_crate.proofs.Equal.{walk-equals-the-rust, walk-numbers-equals-the-rust, pull-equals-the-rust}
+use Rattle.as_the_crate.proofs.Overflow.{overflows-exactly-when}
+use Rattle.as_the_crate.proofs.Encoding.{writes-as-the-rust}
+use Rattle.as_the_crate.proofs.EncodingNested.{every-accepted-plan-is-nested}
 use Rattle.blindness.proofs.Theorems.{blindness, lent-blindness, public-copies}
 use Rattle.blindness.proofs.Spared.{licensed-are-four, terms-pass, one-more-fails}
 use Rattle.promises.specs.Promises.{Demand1, Demand2, Demand3}
@@ -51,6 +55,12 @@ demand-2 =
       plan-taken = plan-taken-exactly-when;
       one-message = one-message-is-in-order;
       reads-back = written-reads-back;
+      walk-is-the-rust's = walk-equals-the-rust;
+      numbers-are-the-rust's = walk-numbers-equals-the-rust;
+      pull-is-the-rust's = pull-equals-the-rust;
+      rust-overflows = overflows-exactly-when;
+      writes-as-the-rust = writes-as-the-rust;
+      every-plan-nested = every-accepted-plan-is-nested;
     }
 
 -- no values octet reaches an answer or a copy

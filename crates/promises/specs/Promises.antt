@@ -16,6 +16,9 @@ use Rattle.walk_laws.specs.OneStep as step
 use Rattle.walk_laws.specs.Samples as samples
 use Rattle.walk_laws.specs.Witnesses as witnesses
 use Rattle.walk_laws.specs.Laws as laws
+use Rattle.as_the_crate.specs.Equal as rust
+use Rattle.as_the_crate.specs.Overflow.{OverflowsExactlyWhen}
+use Rattle.as_the_crate.specs.Writes.{WritesAsTheRust, EveryAcceptedPlanIsNested}
 use Rattle.blindness.specs.Agree.{Alike}
 use Rattle.blindness.specs.Blindness.{One, Public}
 use Rattle.promises.specs.Lent as lent
@@ -72,6 +75,15 @@ pub record Demand2 : Type 0 where
   pub plan-taken : plan.PlanTakenExactlyWhen
   pub one-message : plan.OneMessageIsInOrder
   pub reads-back : plan.WrittenReadsBack
+  -- the Rust, transcribed: where it does not overflow and the tables hold its lines, both walks and
+  -- the pull reader give what it tells; it overflows exactly where 01's additions refuse
+  pub walk-is-the-rust's : rust.WalkEqualsTheRust
+  pub numbers-are-the-rust's : rust.WalkNumbersEqualsTheRust
+  pub pull-is-the-rust's : rust.PullEqualsTheRust
+  pub rust-overflows : OverflowsExactlyWhen
+  -- every accepted plan is a message of the Rust's, and it writes the same octets
+  pub writes-as-the-rust : WritesAsTheRust
+  pub every-plan-nested : EveryAcceptedPlanIsNested
 
 -- 3. Two files of one length that differ only in values octets give equal lines, fields and end
 -- answer; on a clean walk the same public copy, which walks to that answer and differs from its
