@@ -1,5 +1,5 @@
 -- The crate's words back: what a walk tells, in the crate's words, is that again.
-use Prim.Native.Nat.{ℕ, zero, suc, _+_, _≤_}
+use Prim.Native.Nat.{ℕ, zero, suc, _≤_}
 use native.Mathlib.Omega.{arith}
 use mathlib.Core.Path.{_≡_, refl, sym, ap, _∙_}
 use mathlib.Core.List.{List, [], _∷_, map}
@@ -26,7 +26,7 @@ use Rattle.index.specs.declared.refusal.Refusal.the-variants as refusal
 use Rattle.index.specs.declared.refusal.Outcome.{Outcome}
 use Rattle.index.specs.declared.refusal.Outcome.the-variants as outcome
 use Rattle.index.specs.Numbers.{endOf, refusalNumber, refusalDetail, faultNumber, faultDetail}
-use Rattle.index.specs.Walk.{Reached, Judgement, stops, passes, goneOn, Told, concluded, followed, walked}
+use Rattle.index.specs.Walk.{Reached, Judgement, stops, passes, goneOn, concluded, followed, walked}
 use Rattle.walk_laws.specs.Laws.{endSections, offsetAt}
 use Rattle.walk_laws.proofs.Messages.{messages-are-ends}
 use Rattle.walk_laws.proofs.Places.{place-is-count, input-over-at-last}

@@ -1,26 +1,25 @@
 -- Reading equals the crate's: the statements of specs/Equal.antt.
-use Prim.Native.Nat.{ℕ, suc, _+_, _*_, _/_, _≤_}
+use Prim.Native.Nat.{ℕ, suc, _/_, _≤_}
 use native.Mathlib.Omega.{arith}
 use mathlib.Core.Path.{_≡_, refl, sym, ap, subst, _∙_}
 use mathlib.Core.List.{List, [], _∷_, map}
 use lib.ListN.{length}
 use Rattle.octets.specs.Words.{Not}
 use Rattle.index.specs.Bounds.{unlimited}
-use Rattle.index.specs.declared.bounds.Room.{Room}
 use Rattle.index.specs.declared.line.Line.{Line}
 use Rattle.index.specs.declared.line.LocalUsePlace.{LocalUsePlace}
 use Rattle.index.specs.declared.line.LocalUsePlace.the-variants.{At, Absent}
 use Rattle.index.specs.Walk.{Told, walked}
-use Rattle.walk.specs.Tables.{roomOf, rowsOf, storedOver, answerOf, Tabled, walkOf}
-use Rattle.walk.specs.Numbers.{linesOf, sevenOf, TabledNumbers, walkNumbers}
+use Rattle.walk.specs.Tables.{roomOf, rowsOf, storedOver, answerOf, walkOf}
+use Rattle.walk.specs.Numbers.{linesOf, sevenOf, walkNumbers}
 use Rattle.pull.specs.Pull.{handsOut, pulled}
 use Rattle.pull.proofs.Sequence.{sequence}
 use Rattle.as_the_crate.specs.Std.{SectionInfo}
-use Rattle.as_the_crate.specs.Parser.{positions, infos, Submessage, Collected, overflow}
-use Rattle.as_the_crate.specs.Told.{theRust, toldIn, toldByTheRust}
-use Rattle.as_the_crate.specs.Equal.{IsFile, RustOverflows, HoldsTheRust, passedAt, passedAtSome, lookedUp}
+use Rattle.as_the_crate.specs.Parser.{positions, infos, Submessage, Collected}
+use Rattle.as_the_crate.specs.Told.{toldIn, toldByTheRust}
+use Rattle.as_the_crate.specs.Equal.{IsFile, RustOverflows, passedAt, passedAtSome, lookedUp}
 use Rattle.as_the_crate.specs.Equal.{EqualsTheRust, WalkEqualsTheRust, WalkNumbersEqualsTheRust, PullEqualsTheRust, PublicRustIsTheSame}
-use Rattle.as_the_crate.proofs.Words.{infosOf, keptLocal, submessageOf, submessagesOf, wordOf, inWords}
+use Rattle.as_the_crate.proofs.Words.{infosOf, keptLocal, submessagesOf, inWords}
 use Rattle.as_the_crate.proofs.Whole.{free, crateFree, held, unlimited-held, with-places, with-sections, in-its-words}
 use Rattle.as_the_crate.proofs.Back.{as-many, end-place, told-back}
 
@@ -53,7 +52,7 @@ walk-equals-the-rust file is no-overflow rows lines a b =
 
 pub walk-numbers-equals-the-rust : WalkNumbersEqualsTheRust
 unfolding walkNumbers
-walk-numbers-equals-the-rust file rows lines is no-overflow a b =
+walk-numbers-equals-the-rust file is no-overflow rows lines a b =
     ap
     (λ (told : Told).
     record {

@@ -8,7 +8,7 @@ pub mod OneSection
 pub mod Stream
 pub mod Submessages
 pub mod Tables
-pub mod Overflows
+pub mod DownItsListing
 pub mod Whole
 pub mod Back
 pub mod Equal

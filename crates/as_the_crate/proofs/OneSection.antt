@@ -1,13 +1,12 @@
 -- One call of Grib2SectionStream's `next` is one read of 01's framing.
-use Prim.Native.Nat.{ℕ, zero, suc, _+_, _-_, _≤_, _<_, _^_}
+use Prim.Native.Nat.{ℕ, _+_, _-_, _≤_, _<_}
 use native.Mathlib.Omega.{arith}
-use mathlib.Core.Path.{_≡_, refl, sym, ap, subst, _∙_}
-use mathlib.Core.Bool.{Bool, true, false, not, _||_, _&&_}
+use mathlib.Core.Path.{_≡_, refl}
+use mathlib.Core.Bool.{true, false, not, _||_}
 use mathlib.Core.List.{List}
-use mathlib.Core.Logic.{_⊎_, inl, inr}
 use lib.Dec.{ltb, leb, eqb}
 use lib.ListN.{length, getD}
-use borrow.Author.Tests.{ltb-true, ltb-false, lt-ltb, le-ltb, lt-leb, le-leb, leb-true, leb-false, eqb-true, eqb-false, ne-eqb}
+use borrow.Author.Tests.{ltb-true, ltb-false, lt-ltb, le-ltb, lt-leb, le-leb, leb-true, leb-false, eqb-true, ne-eqb}
 use Rattle.octets.specs.Words.{pick}
 use Rattle.octets.specs.BigEndian.{beAt}
 use Rattle.octets.proofs.Laws.{be-lt}
@@ -22,11 +21,11 @@ use Rattle.framing.specs.declared.read.Fault.{Fault}
 use Rattle.framing.specs.declared.read.Fault.the-variants as fault
 use Rattle.framing.specs.Read.{Read}
 use Rattle.framing.specs.Read as read
-use Rattle.framing.proofs.Tests.{tests, by-test}
+use Rattle.framing.proofs.Tests.{by-test}
 use Rattle.framing.proofs.NextStart.{start-room, next-start-first}
-use Rattle.as_the_crate.specs.Std.{Result, SectionInfo, info, gives, none, errs, err, overflows, begun, try, minus, plus, Cursor·read, Cursor·read-exact}
+use Rattle.as_the_crate.specs.Std.{info, gives, none, err, overflows, begun, try, minus, plus, Cursor·read, Cursor·read-exact}
 use Rattle.as_the_crate.specs.Std.{ReadError, GRIBVersionMismatch, UnknownSectionNumber, EndSectionMismatch, SectionSizeTooSmall}
-use Rattle.as_the_crate.specs.Reader.{Grib2SectionStream, NextSection, Sect0, Indicator·from-slice, from-payload, read-sect0, read-sect8}
+use Rattle.as_the_crate.specs.Reader.{Grib2SectionStream, NextSection, Sect0, Indicator·from-slice, from-payload, read-sect8}
 use Rattle.as_the_crate.specs.Reader.{read-sect-header, read-slice-without-offset-check, read-sect6-payload, skip-sect7-payload, read-checked}
 use Rattle.as_the_crate.specs.Reader.{read-body, read-sect-payload, next-sect0, next-sect8, next-sect, Grib2SectionStream·next}
 use Rattle.as_the_crate.proofs.Words.{infoOf, Octets}

@@ -1,7 +1,7 @@
 -- Called again and again, Grib2SectionStream's `next` gives the listing of 01's framing, up to the first read that leaves usize.
-use Prim.Native.Nat.{ℕ, zero, suc, _+_, _-_, _≤_, _<_}
+use Prim.Native.Nat.{ℕ, zero, suc, _-_, _≤_, _<_}
 use native.Mathlib.Omega.{arith}
-use mathlib.Core.Path.{_≡_, refl, _∙_}
+use mathlib.Core.Path.{_≡_, refl}
 use mathlib.Core.List.{List, [], _∷_}
 use mathlib.Core.Bool.{Bool, true, false}
 use lib.ListN.{length}
@@ -15,7 +15,7 @@ use Rattle.framing.specs.declared.read.Fault.the-variants as fault
 use Rattle.framing.specs.Read.{Read}
 use Rattle.framing.specs.Read as read
 use Rattle.framing.proofs.OneRead.{Reads, reads, goes}
-use Rattle.as_the_crate.specs.Std.{ParseError, Dropped, Result, SectionInfo, gives, none, errs, overflows}
+use Rattle.as_the_crate.specs.Std.{ParseError, Dropped, gives, none, errs, overflows}
 use Rattle.as_the_crate.specs.Reader.{Grib2SectionStream, Grib2SectionStream·next}
 use Rattle.as_the_crate.specs.Parser.{Advance, fails, overflow}
 use Rattle.as_the_crate.proofs.Words.{infoOf, failureOf, Octets}

@@ -1,10 +1,10 @@
 -- Over an iterator that yields a listing, the crate's streams of submessages tell what the walk tells down that listing.
 use Prim.Native.Nat.{ℕ, zero, suc, _+_, _-_, _*_, _≤_, _<_}
 use native.Mathlib.Omega.{arith}
-use mathlib.Core.Path.{_≡_, refl, ap, _∙_}
+use mathlib.Core.Path.{_≡_, refl, ap}
 use mathlib.Core.Bool.{Bool, true, false}
 use mathlib.Core.List.{List, [], _∷_}
-use lib.Dec.{ltb, leb, eqb}
+use lib.Dec.{eqb}
 use lib.ListN.{length}
 use borrow.Author.Tests.{eqb-true, ne-eqb, lt-leb}
 use Rattle.order.specs.Order.{judged, completes, isBetween}
@@ -21,9 +21,9 @@ use Rattle.index.specs.declared.line.LocalUsePlace.the-variants.{At, Absent}
 use Rattle.index.specs.declared.listed.Listed.{Listed}
 use Rattle.index.specs.declared.bounds.Room.{Room}
 use Rattle.index.specs.Walk.{Reached, fitted, closing, byOrder, judgement, concluded, walkedFrom}
-use Rattle.as_the_crate.specs.Std.{ParseError, Dropped, some, nothing, gives, none, errs, overflows, info}
-use Rattle.as_the_crate.specs.Parser.{Advance, Peekable, Validator, Keeping, Submessage, SubmessageStream, Locals, locals, fresh-locals, caching, ValidatorState}
-use Rattle.as_the_crate.specs.Parser.{StartOfMessage, StartOfSubmessage, EndOfSect, EndOfStream}
+use Rattle.as_the_crate.specs.Std.{ParseError, Dropped, nothing, gives, none, errs, overflows, info}
+use Rattle.as_the_crate.specs.Parser.{Advance, Keeping, Submessage, SubmessageStream, Locals, locals, fresh-locals, caching, ValidatorState}
+use Rattle.as_the_crate.specs.Parser.{StartOfMessage, EndOfSect}
 use Rattle.as_the_crate.specs.Parser.{ensure-next-is-sect0, ensure-next-is-sect-2-or-3-or-4, ensure-next-is-sect8, ensure-next-is-sect-num}
 use Rattle.as_the_crate.specs.Parser.{next-in, match-num, fails, overflow, adds, collected}
 use Rattle.as_the_crate.proofs.Words.{infoOf, keptLocal, failureOf, inWords}

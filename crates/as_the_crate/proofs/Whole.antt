@@ -1,10 +1,10 @@
 -- On a whole file, the crate's streams tell what the walk tells down the crate's listing; that ends in an overflow, or is the walk.
-use Prim.Native.Nat.{ℕ, zero, suc, _+_, _*_, _≤_, _<_}
+use Prim.Native.Nat.{ℕ, suc, _+_, _*_, _≤_}
 use native.Mathlib.Omega.{arith}
 use mathlib.Core.Path.{_≡_, refl, sym, ap, subst, _∙_}
 use mathlib.Core.List.{List, [], _∷_}
 use mathlib.Core.Logic.{_⊎_, inl, inr}
-use lib.ListN.{length, getD}
+use lib.ListN.{length}
 use borrow.Author.Tests.{le-ltb}
 use Rattle.octets.specs.Words.{Not}
 use Rattle.framing.specs.Listing.{listing}
@@ -14,7 +14,7 @@ use Rattle.index.specs.declared.line.LocalUsePlace.the-variants.{Absent}
 use Rattle.index.specs.Bounds.{unlimited}
 use Rattle.index.specs.declared.bounds.Room.{Room}
 use Rattle.index.specs.Walk.{Told, atStart, walked}
-use Rattle.as_the_crate.specs.Std.{SectionInfo, info}
+use Rattle.as_the_crate.specs.Std.{SectionInfo}
 use Rattle.as_the_crate.specs.Reader.{Grib2SectionStream·next}
 use Rattle.as_the_crate.specs.Parser.{Keeping, positions, infos, Collected, overflow}
 use Rattle.as_the_crate.specs.Told.{streamed, theRust, thePublicRust}
@@ -24,7 +24,7 @@ use Rattle.as_the_crate.proofs.Words.{infosOf, wordOf, inWords}
 use Rattle.as_the_crate.proofs.OneSection.{stream}
 use Rattle.as_the_crate.proofs.Stream.{crateListing, stream-yields, few, fewer}
 use Rattle.as_the_crate.proofs.Submessages.{places, between, nothingKept, Seen, submessages}
-use Rattle.as_the_crate.proofs.Overflows.{overflow-or-same}
+use Rattle.as_the_crate.proofs.DownItsListing.{overflow-or-same}
 use Rattle.as_the_crate.proofs.Tables.{freelyFrom, in-tables, few-told}
 
 -- the walk with no table in mind, and the walk down the crate's listing

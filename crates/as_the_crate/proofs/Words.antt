@@ -18,7 +18,7 @@ use Rattle.index.specs.declared.refusal.Refusal.the-variants as refusal
 use Rattle.index.specs.declared.refusal.Outcome.{Outcome}
 use Rattle.index.specs.declared.refusal.Outcome.the-variants as outcome
 use Rattle.index.specs.Walk.{Told}
-use Rattle.as_the_crate.specs.Std.{ParseError, Dropped, SectionInfo, info, Option, some, nothing}
+use Rattle.as_the_crate.specs.Std.{ParseError, SectionInfo, info, Option, some, nothing}
 use Rattle.as_the_crate.specs.Std.{ReadError, GRIBVersionMismatch, UnknownSectionNumber, EndSectionMismatch, SectionSizeTooSmall}
 use Rattle.as_the_crate.specs.Std.{UnexpectedEndOfData, InvalidSectionOrder, NoGridDefinition}
 use Rattle.as_the_crate.specs.Parser.{Keeping, Submessage, Collected, Finish, clean, fails, overflow, unended}

@@ -16,7 +16,7 @@ use Rattle.walk.specs.Numbers.{linesOf, sevenOf, walkNumbers}
 use Rattle.pull.specs.Pull.{handsOut, pulled}
 use Rattle.pull.specs.Calls.{pullAt, afterCalls}
 use Rattle.as_the_crate.specs.Std.{Option, some, nothing, SectionInfo, info}
-use Rattle.as_the_crate.specs.Parser.{Submessage, overflow, Collected}
+use Rattle.as_the_crate.specs.Parser.{Submessage, overflow}
 use Rattle.as_the_crate.specs.Told.{theRust, thePublicRust, toldByTheRust}
 
 -- a file: a list of octets, at most 2^40
@@ -58,7 +58,8 @@ WalkEqualsTheRust =
 -- and `walk_numbers`, in 01's numbers
 abbrev pub WalkNumbersEqualsTheRust : Type 0
 WalkNumbersEqualsTheRust =
-    (file rows lines : List ℕ) → IsFile file → Not (RustOverflows file)
+    (file : List ℕ) → IsFile file → Not (RustOverflows file)
+    → (rows lines : List ℕ)
     → 3 * length (theRust file .sections) ≤ length rows
     → 12 * length (theRust file .submessages) ≤ length lines
     → walkNumbers file rows lines

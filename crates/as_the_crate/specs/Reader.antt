@@ -3,7 +3,7 @@
 -- function that moves the cursor answers the new place last. Sums of a place in the file and a u32
 -- are not tested for overflow.
 use Prim.Native.Nat.{ℕ, zero, suc, _+_, _-_}
-use mathlib.Core.Bool.{Bool, not}
+use mathlib.Core.Bool.{not}
 use mathlib.Core.List.{List}
 use lib.Dec.{ltb, eqb}
 use lib.ListN.{length, getD}
@@ -19,7 +19,6 @@ use Rattle.as_the_crate.specs.Std.{
   Result,
   gives,
   none,
-  overflows,
   never,
   err,
   begun,
