@@ -2,16 +2,14 @@
 use Prim.Native.Nat.{ℕ, suc, _+_, _-_, _≤_}
 use native.Mathlib.Omega.{arith}
 use native.Mathlib.Nat.{sub-zero}
-use mathlib.Core.Path.{_≡_, refl, sym, ap, subst, _∙_}
-use mathlib.Core.Bool.{Bool, true, false}
+use mathlib.Core.Path.{_≡_, refl, sym, ap, subst}
+use mathlib.Core.Bool.{false}
 use mathlib.Core.List.{List, [], _∷_, _++_}
 use mathlib.Core.Logic.{_⊎_, inl, inr}
-use lib.Dec.{ltb}
 use lib.ListN.{length, length-append}
-use borrow.Author.Tests.{ltb-false, eq-eqb, ne-eqb}
+use borrow.Author.Tests.{eq-eqb, ne-eqb}
 use Rattle.octets.specs.Words.{Not}
 use Rattle.framing.specs.declared.read.Section.{Section}
-use Rattle.framing.specs.Read.{Read}
 use Rattle.framing.proofs.OneRead.{reads-as, goes}
 use Rattle.order.specs.Order.{isBetween}
 use Rattle.order.specs.declared.Order.the-variants.{AfterData}
@@ -21,7 +19,8 @@ use Rattle.index.specs.declared.numbers.End.{End}
 use Rattle.index.specs.declared.refusal.Outcome.the-variants as outcome
 use Rattle.index.specs.Bounds.{unlimited}
 use Rattle.index.specs.declared.bounds.Room.{Room}
-use Rattle.index.specs.Walk.{Reached, atStart, Judgement, Told, followed, walked}
+use Rattle.index.specs.Walk.{Reached, atStart, Told, walked}
+use Rattle.index.specs.Pins.{Every}
 use Rattle.walk_laws.specs.Rows.{FirstRow}
 use Rattle.walk_laws.specs.ExactlyWhen.{
   rowsAfterRead,
@@ -37,11 +36,8 @@ use Rattle.walk_laws.specs.ExactlyWhen.{
   unread,
   inputOver,
   misjudged,
-  EndsClean,
-  between,
 }
 use Rattle.walk_laws.specs.Laws.{
-  Every,
   numberAt,
   EndPlacesAreEnds,
   closers,
@@ -49,14 +45,12 @@ use Rattle.walk_laws.specs.Laws.{
   FewerThanOctets,
   WithinRoom,
   UnlimitedIsNeverFull,
-  CleanInAnyRoom,
-  CleanIsUnlimited,
 }
-use Rattle.walk_laws.proofs.WholeWalk.{on, after, on-next, walked-on, walk-refused-exactly-when, walk-clean-exactly-when}
+use Rattle.walk_laws.proofs.WholeWalk.{on, walk-refused-exactly-when}
 use Rattle.walk_laws.proofs.OneRead.{section-there}
 use Rattle.walk_laws.proofs.WalksTo.{WalksTo, fromStart, stepOn, comes-walks-to}
 use Rattle.walk_laws.proofs.Passing.{Way, within, goneFurther, shut, Left, nothing, oneLine, Passing, passing, halting}
-use Rattle.walk_laws.proofs.Induction.{each-stand, of-walk, gone}
+use Rattle.walk_laws.proofs.Induction.{each-stand, of-walk}
 
 -- no more lines than sections, and one fewer inside a message
 pub record Ample (r : Reached) : Type 0 where
@@ -276,54 +270,3 @@ unlimited-is-never-full file = ((λ e. so 13 (λ z. omega arith) e .0 refl), λ 
     so n some e =
         never file n (end .place) (end .offset) (end .detail)
         (walk-refused-exactly-when unlimited file n (end .place) (end .offset) (end .detail) some .0 (rw e))
-
--- a clean walk in another room
-clean-anywhere : (room other : Room) (file : List ℕ) (at rest : ℕ) (r : Reached) → on room file at rest r .outcome ≡ outcome.Clean
-    → r .sections + length (on room file at rest r .sections) ≤ other .rows
-    → r .lines + length (on room file at rest r .lines) ≤ other .lines → on other file at rest r ≡ on room file at rest r
-clean-anywhere room other file =
-    each-stand room file
-    (λ at rest r t. t .outcome ≡ outcome.Clean → r .sections + length (t .sections) ≤ other .rows
-    → r .lines + length (t .lines) ≤ other .lines → on other file at rest r ≡ t)
-    (λ at rest r how same clean a b. same other)
-    (λ at rest r s c lines why e f clean a b. let z : _≡_ {A = ℕ} 0 1 = cc in absurd (omega arith))
-    (λ at rest r s c lines closed reached later e f so clean a b.
-    let p = passing room r s f in
-    let one = p .one in
-    let counted = p .counted in
-    let sum = length-append lines (later .lines) in
-    let here = p .anywhere other (omega arith) (omega arith) in
-    on-next other file at rest r
-    ∙ ap (λ (x : Read). after other file r x) e
-    ∙ ap (λ (j : Judgement). followed r s j (λ reached. on other file (c .at .0) (c .rest) reached)) here
-    ∙ ap (gone s lines closed) (so clean (omega arith) (omega arith)))
-
-pub clean-in-any-room : CleanInAnyRoom
-unfolding walked
-clean-in-any-room room other file clean rows lines = go (ltb 1099511627776 (length file)) refl
-  where
-    go : (t : Bool) → ltb 1099511627776 (length file) ≡ t → walked other file ≡ walked room file
-    go true long = rw long
-    go false fits =
-        let short = ltb-false 1099511627776 (length file) fits in
-        let here = walked-on room file short in
-        walked-on other file short
-        ∙ clean-anywhere room other file 0 0 atStart (subst (λ (t : Told). t .outcome ≡ outcome.Clean) here clean)
-        (let k = subst (λ (t : Told). length (t .sections) ≤ other .rows) here rows in omega arith)
-        (let k = subst (λ (t : Told). length (t .lines) ≤ other .lines) here lines in omega arith)
-        ∙ sym here
-
-pub clean-is-unlimited : CleanIsUnlimited
-unfolding endOf
-clean-is-unlimited room file clean =
-    let few = fewer-than-octets room file in
-    let rows = few .0 in
-    let lines = few .1 in
-    let short = clean-short room file clean in
-    clean-in-any-room room unlimited file clean (omega arith) (omega arith)
-  where
-    clean-short : (room : Room) (file : List ℕ) → walked room file .outcome ≡ outcome.Clean → length file ≤ 1099511627776
-    clean-short room file clean = short-of (walk-clean-exactly-when room file .0 (rw clean refl))
-      where
-        short-of : EndsClean room file → length file ≤ 1099511627776
-        short-of (between short c none e) = short

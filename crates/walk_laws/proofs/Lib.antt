@@ -11,4 +11,5 @@ pub mod Induction
 pub mod Messages
 pub mod Counts
 pub mod Places
+pub mod Unlimited
 pub mod Computed

@@ -16,15 +16,14 @@ use Rattle.framing.proofs.OneRead.{Reads, opens, closes, heads, reads-as}
 use Rattle.index.specs.declared.line.Line.{Line}
 use Rattle.index.specs.declared.bounds.Room.{Room}
 use Rattle.index.specs.Walk.{Reached, atStart, Told, walked}
+use Rattle.index.specs.Pins.{Every, countOf}
 use Rattle.walk_laws.specs.ExactlyWhen.{total}
 use Rattle.walk_laws.specs.Laws.{
-  Every,
   lengths,
   EndToEnd,
   ClosedMessagesAreTiled,
   ClosesOne,
   EachEndClosesAMessage,
-  endSections,
   MessagesAreEnds,
   numberAt,
   NoEndAtPlace0,
@@ -141,13 +140,13 @@ each-end-closes-a-message room file before eighth after listed last = go (last-z
 
 pub messages-are-ends : MessagesAreEnds
 messages-are-ends room file =
-    of-walk room file (λ t. t .messages ≡ endSections (t .sections)) (λ how. refl)
-    (each-stand room file (λ at rest r t. t .messages ≡ endSections (t .sections)) (λ at rest r how same. refl)
+    of-walk room file (λ t. t .messages ≡ countOf 8 (t .sections)) (λ how. refl)
+    (each-stand room file (λ at rest r t. t .messages ≡ countOf 8 (t .sections)) (λ at rest r how same. refl)
     (λ at rest r s c lines why e f. refl)
     (λ at rest r s c lines closed reached later e f so. go r s lines closed reached (passing room r s f .way) later so) 0 0 atStart)
   where
     go : (r : Reached) (s : Section) (lines : List Line) (closed : ℕ) (reached : Reached) → Way r s lines closed reached → (later : Told)
-        → later .messages ≡ endSections (later .sections) → closed + later .messages ≡ pick (eqb (s .number) 8) 1 0 + endSections (later .sections)
+        → later .messages ≡ countOf 8 (later .sections) → closed + later .messages ≡ pick (eqb (s .number) 8) 1 0 + countOf 8 (later .sections)
     go r s _ _ _ (within below ajar) later so = rw (ne-eqb (s .number) 8 (λ z. omega arith), so)
     go r s _ _ _ (goneFurther below ajar order end) later so = rw (ne-eqb (s .number) 8 (λ z. omega arith), so)
     go r s _ _ _ (shut eight clean order end) later so = rw (eq-eqb (s .number) 8 eight, so)

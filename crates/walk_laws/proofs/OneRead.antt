@@ -14,6 +14,7 @@ use Rattle.sections.specs.declared.kinds.LeastOf.{LeastOf}
 use Rattle.sections.specs.declared.kinds.LeastOf.the-variants.{Octets, NoHeader}
 use Rattle.sections.specs.declared.kinds.MaybeKind.{MaybeKind}
 use Rattle.framing.specs.Search.{says, IsNextStart, nextStart}
+use Rattle.framing.specs.LaidOut.{sectionOf}
 use Rattle.framing.specs.Framing.{refusedAt, indicatorAt, endAt, isCut, payloadAt, headerAt, messageAt, readAt}
 use Rattle.framing.specs.declared.search.Found.{Found}
 use Rattle.framing.specs.declared.search.Found.the-variants.{At, Nowhere}
@@ -37,7 +38,6 @@ use Rattle.walk_laws.specs.ExactlyWhen.{
   PayloadCut,
   leastOctets,
   rowsBehindHeader,
-  sectionOf,
   InHand,
   hand0,
   hand8,

@@ -9,6 +9,7 @@ use lib.ListN.{length, getD, length-append}
 use lib.Seq.{getD-append-add}
 use native.Mathlib.Nat.{add-zero}
 use Rattle.octets.specs.Words.{pick, Not, Iff}
+use Rattle.framing.specs.LaidOut.{sectionOf}
 use Rattle.framing.specs.Framing.{readAt, refusedAt}
 use Rattle.framing.specs.declared.read.Section.{Section}
 use Rattle.framing.specs.Read.{Read}
@@ -21,7 +22,7 @@ use Rattle.order.specs.declared.Judged.the-variants as says
 use Rattle.order.specs.declared.Verdict.{Verdict}
 use Rattle.order.specs.declared.Verdict.the-variants as verdict
 use Rattle.index.specs.Numbers.{faultNumber, faultDetail}
-use Rattle.walk_laws.specs.ExactlyWhen.{CannotBeRead, WellRead, NoneInHand, sectionOf, CanCome, NoGridYet, ClosesMessage, orderAfter}
+use Rattle.walk_laws.specs.ExactlyWhen.{CannotBeRead, WellRead, NoneInHand, CanCome, NoGridYet, ClosesMessage, orderAfter}
 use Rattle.walk_laws.specs.OneStep.{
   ReadNumbers,
   aSection,

@@ -6,7 +6,7 @@ use mathlib.Core.Bool.{true, false}
 use mathlib.Core.List.{List, [], _∷_}
 use lib.Dec.{leb}
 use lib.ListN.{length}
-use borrow.Author.Tests.{leb-false, lt-leb}
+use borrow.Author.Tests.{leb-false}
 use Rattle.framing.specs.declared.read.Section.{Section}
 use Rattle.framing.proofs.Tests.{by-test}
 use Rattle.order.specs.Order.{judged, completes, isBetween}
@@ -48,9 +48,6 @@ pub record Passing (room : Room) (r : Reached) (s : Section) (lines : List Line)
   pub held : r .lines ≤ room .lines → reached .lines ≤ room .lines
   pub few : length lines ≤ 1
   pub way : Way r s lines closed reached
-  -- the same in any room that holds its row and its lines
-  pub anywhere : (other : Room) → r .sections < other .rows → r .lines + length lines ≤ other .lines
-      → judgement other r s ≡ passes lines closed reached
 
 abbrev pub IfPassed : Room → Reached → Section → Judgement → Type 0
 IfPassed room r s (stops lines why) = Halting room r lines
@@ -76,7 +73,6 @@ module _ (room : Room) (r : Reached) (s : Section) where
         held = λ h. h;
         few = omega arith;
         way = within (fits-below (r .order) (s .number) e) (fits-open (r .order) (s .number) e);
-        anywhere = λ other a b. rw (off, e, lt-leb (other .rows) (r .sections) a);
       }
   plain off says.Closes e =
       by-test P (leb (room .rows) (r .sections)) (λ f. silent) λ f.
@@ -92,7 +88,6 @@ module _ (room : Room) (r : Reached) (s : Section) where
         held = λ h. omega arith;
         few = omega arith;
         way = shut (k .1) refl (k .0) refl;
-        anywhere = λ other a b. rw (off, e, lt-leb (other .rows) (r .sections) a, lt-leb (other .lines) (r .lines) (omega arith));
       }
   plain off says.Misplaced e = silent
   plain off says.NoGrid e = silent
@@ -117,7 +112,6 @@ module _ (room : Room) (r : Reached) (s : Section) where
         way =
             goneFurther (fits-below SubmessageStart (s .number) e) (fits-open SubmessageStart (s .number) e)
             (completes-only (r .order) (s .number) goes .0) refl;
-        anywhere = λ other a b. rw (goes, lt-leb (other .lines) (r .lines) (omega arith), e, lt-leb (other .rows) (r .sections) a);
       }
   going goes line says.Closes e = absurd (apart (λ z. cc) (closes-only SubmessageStart (s .number) e .0))
   going goes line says.Misplaced e = spoken goes line

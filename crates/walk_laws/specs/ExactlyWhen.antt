@@ -11,6 +11,7 @@ use Rattle.octets.specs.Words.{Not, Iff}
 use Rattle.octets.specs.BigEndian.{beAt}
 use Rattle.framing.specs.Search.{IsNextStart}
 use Rattle.framing.specs.declared.search.Found.the-variants.{At, Nowhere}
+use Rattle.framing.specs.LaidOut.{sectionOf}
 use Rattle.framing.specs.declared.read.Section.{Section}
 use Rattle.order.specs.declared.Order.{Order}
 use Rattle.order.specs.declared.Order.the-variants.{
@@ -131,11 +132,6 @@ rowsBehindHeader file at rest =
     (row 8 (UnderLeast file at) (payload file at)
     (row 9 (LongerThanRest file at rest) (len file at)
     noMore)))))
-
--- a section by its number, offset and length
-abbrev pub sectionOf : ℕ → ℕ → ℕ → Section
-sectionOf number offset length =
-    record { number = number; offset = record { 0 = offset }; length = length }
 
 -- The section in hand where a read is made at `at` with `rest` octets of the message to come: this
 -- is so of it, of the octets of the message behind it, and of its rows.

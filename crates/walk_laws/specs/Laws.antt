@@ -1,8 +1,8 @@
 -- What 01 says of every walk: closed messages are tiled by their sections ("Framing"), a true
 -- section 8 never has place 0 ("Order"), and tables that are large enough change nothing. The
 -- counts of an answer are the lengths of what is told, by definition: no statement says so. The
--- statements are proved in proofs/Messages, Counts and Places.antt, under their names in small
--- letters.
+-- statements are proved in proofs/Messages, Counts, Places and Unlimited.antt, under their names in
+-- small letters.
 use Prim.Native.Nat.{ℕ, _+_, _≤_}
 use mathlib.Core.Path.{_≡_}
 use mathlib.Core.List.{List, [], _∷_, _++_}
@@ -13,16 +13,11 @@ use Rattle.octets.specs.Words.{pick, Not}
 use Rattle.framing.specs.declared.read.Section.{Section}
 use Rattle.index.specs.declared.line.Line.{Line}
 use Rattle.index.specs.Numbers.{endOf}
-use Rattle.index.specs.declared.refusal.Outcome.the-variants as outcome
 use Rattle.index.specs.Bounds.{unlimited}
 use Rattle.index.specs.declared.bounds.Room.{Room}
-use Rattle.index.specs.Walk.{walked}
+use Rattle.index.specs.Walk.{Told, walked}
+use Rattle.index.specs.Pins.{Every, countOf}
 use Rattle.walk_laws.specs.ExactlyWhen.{total}
-
--- it is so of each
-abbrev pub Every : {A : Type 0} → (A → Type 0) → List A → Type 0
-Every So [] = Unit
-Every So (a ∷ more) = So a × Every So more
 
 -- the sum of lengths
 abbrev pub lengths : List Section → ℕ
@@ -68,14 +63,10 @@ EachEndClosesAMessage =
     → ClosesOne (walked room file .sections) eighth after
 
 -- as many messages are closed as sections 8 are told
-abbrev pub endSections : List Section → ℕ
-endSections [] = 0
-endSections (s ∷ more) = pick (eqb (s .number) 8) 1 0 + endSections more
-
 abbrev pub MessagesAreEnds : Type 0
 MessagesAreEnds =
     (room : Room) (file : List ℕ)
-    → walked room file .messages ≡ endSections (walked room file .sections)
+    → walked room file .messages ≡ countOf 8 (walked room file .sections)
 
 -- the number of the section at a place of the list; 0 where there is none
 abbrev pub numberAt : List Section → ℕ → ℕ
@@ -143,16 +134,22 @@ UnlimitedIsNeverFull =
     → Not (endOf (walked unlimited file .outcome) .outcome ≡ 13)
     × Not (endOf (walked unlimited file .outcome) .outcome ≡ 14)
 
--- a walk that ends clean tells the same with any tables that hold its sections and lines
-abbrev pub CleanInAnyRoom : Type 0
-CleanInAnyRoom =
-    (room other : Room) (file : List ℕ) → walked room file .outcome ≡ outcome.Clean
-    → length (walked room file .sections) ≤ other .rows
-    → length (walked room file .lines) ≤ other .lines
-    → walked other file ≡ walked room file
+-- what is told of the file is where the whole begins
+pub record BeginsWith (whole told : Told) : Type 0 where
+  pub moreSections : List Section
+  pub moreLines : List Line
+  pub sections : whole .sections ≡ told .sections ++ moreSections
+  pub lines : whole .lines ≡ told .lines ++ moreLines
 
--- so with unlimited ones
-abbrev pub CleanIsUnlimited : Type 0
-CleanIsUnlimited =
-    (room : Room) (file : List ℕ) → walked room file .outcome ≡ outcome.Clean
-    → walked unlimited file ≡ walked room file
+-- lent tables of any size: a walk tells the beginning of what it tells with unlimited ones
+abbrev pub BeginsTheUnlimited : Type 0
+BeginsTheUnlimited =
+    (room : Room) (file : List ℕ) → BeginsWith (walked unlimited file) (walked room file)
+
+-- and all of it, to the same end, where they hold its sections and lines
+abbrev pub HeldIsUnlimited : Type 0
+HeldIsUnlimited =
+    (room : Room) (file : List ℕ)
+    → length (walked unlimited file .sections) ≤ room .rows
+    → length (walked unlimited file .lines) ≤ room .lines
+    → walked room file ≡ walked unlimited file

@@ -6,6 +6,7 @@ use mathlib.Core.List.{List, [], _∷_, _++_}
 use lib.ListN.{length, getD}
 use Rattle.octets.specs.Words.{Not, Iff}
 use Rattle.framing.specs.Framing.{readAt}
+use Rattle.framing.specs.LaidOut.{sectionOf}
 use Rattle.framing.specs.Read.{Read}
 use Rattle.framing.specs.Read as read
 use Rattle.order.specs.Order.{judged, orderOf}
@@ -17,7 +18,6 @@ use Rattle.order.specs.declared.Verdict.{Verdict}
 use Rattle.order.specs.declared.Verdict.the-variants as verdict
 use Rattle.index.specs.Numbers.{faultNumber, faultDetail}
 use Rattle.walk_laws.specs.ExactlyWhen.{
-  sectionOf,
   NoneInHand,
   CannotBeRead,
   WellRead,
