@@ -27,7 +27,8 @@ use Rattle.index.specs.declared.refusal.Outcome.{Outcome}
 use Rattle.index.specs.declared.refusal.Outcome.the-variants as outcome
 use Rattle.index.specs.Numbers.{endOf, refusalNumber, refusalDetail, faultNumber, faultDetail}
 use Rattle.index.specs.Walk.{Reached, Judgement, stops, passes, goneOn, concluded, followed, walked}
-use Rattle.walk_laws.specs.Laws.{endSections, offsetAt}
+use Rattle.index.specs.Pins.{countOf}
+use Rattle.walk_laws.specs.Laws.{offsetAt}
 use Rattle.walk_laws.proofs.Messages.{messages-are-ends}
 use Rattle.walk_laws.proofs.Places.{place-is-count, input-over-at-last}
 use Rattle.as_the_crate.specs.Std.{SectionInfo, info}
@@ -56,7 +57,7 @@ pub lines-back : (ls : List Line) → map (λ (s : Submessage ℕ). lineIn s) (s
 lines-back [] = refl
 lines-back (l ∷ ls) = rw (line-back l, lines-back ls)
 
-closed-back : (ss : List Section) → closedIn (infosOf ss) ≡ endSections ss
+closed-back : (ss : List Section) → closedIn (infosOf ss) ≡ countOf 8 ss
 closed-back [] = refl
 closed-back (s ∷ ss) = rw (closed-back ss)
 

@@ -3,11 +3,14 @@ use mathlib.Core.Path.{sym, ap, _∙_}
 use Rattle.index.specs.Numbers.{endOf}
 use Rattle.index.specs.Bounds.{unlimited}
 use Rattle.index.specs.Walk.{Told, walked}
-use Rattle.walk_laws.proofs.Computed.{starred-hold, others-hold, witnesses-hold, too-long-refused}
+use Rattle.index.proofs.Rows.{rows-are-laid-out, over-tells-all, just-read-stands-next}
+use Rattle.index.proofs.Pins.{lines-are-pinned, a-line-for-each-7}
+use Rattle.walk_laws.proofs.Computed.{starred-hold, others-hold, witnesses-hold}
 use Rattle.walk_laws.proofs.WholeWalk.{is-clean, walk-refused-exactly-when, walk-clean-exactly-when}
-use Rattle.walk_laws.proofs.OneStep.{one-read-exactly-when, one-judgement-exactly-when, one-order-exactly-when}
+use Rattle.walk_laws.proofs.OneStep.{one-step-exactly-when}
 use Rattle.walk_laws.proofs.Messages.{closed-messages-are-tiled, each-end-closes-a-message, messages-are-ends, no-end-at-place-0}
-use Rattle.walk_laws.proofs.Counts.{within-room, unlimited-is-never-full}
+use Rattle.walk_laws.proofs.Counts.{unlimited-is-never-full}
+use Rattle.walk_laws.proofs.Unlimited.{begins-the-unlimited, held-is-unlimited}
 use Rattle.walk_laws.proofs.Places.{place-is-count, input-over-at-last}
 use Rattle.as_the_crate.proofs.Equal.{walk-equals-the-rust, walk-numbers-equals-the-rust, pull-equals-the-rust}
 use Rattle.as_the_crate.proofs.Overflow.{overflows-exactly-when}
@@ -17,6 +20,7 @@ use Rattle.blindness.proofs.Theorems.{blindness, lent-blindness, public-copies}
 use Rattle.blindness.proofs.Spared.{licensed-are-four, terms-pass, one-more-fails}
 use Rattle.promises.specs.Promises.{Demand1, Demand2, Demand3}
 use Rattle.promises.specs.AllTerms.{ForAllTerms}
+use Rattle.promises.proofs.Answers.{each-gives-its-definition}
 use Rattle.promises.proofs.Leaves.{walk-stores, numbers-store, copy-leaves, write-leaves}
 use Rattle.promises.proofs.Pulling.{pull-hands-out}
 use Rattle.promises.proofs.Copying.{copied, copy-refused-exactly-when, copy-written-exactly-when}
@@ -25,29 +29,39 @@ use Rattle.promises.proofs.Blind.{one, public, equal-numbers, equal-fac
 
 -- what was stored stands, and all else lent is untouched
 pub demand-1 : Demand1
-demand-1 = record { walk-stores = walk-stores; numbers-store = numbers-store; copy-leaves = copy-leaves; write-leaves = write-leaves }
+demand-1 =
+    record {
+      each-gives = λ M. each-gives-its-definition;
+      walk-stores = walk-stores;
+      numbers-store = numbers-store;
+      copy-leaves = copy-leaves;
+      write-leaves = write-leaves;
+    }
 
 -- what makes the definitions worth believing
 pub demand-2 : Demand2
 demand-2 =
     record {
+      rows-are-laid-out = rows-are-laid-out;
+      over-tells-all = over-tells-all;
+      just-read-stands-next = just-read-stands-next;
+      lines-are-pinned = lines-are-pinned;
+      a-line-for-each-7 = a-line-for-each-7;
       walk-refuses = walk-refused-exactly-when;
       walk-ends-clean = walk-clean-exactly-when;
-      one-read = one-read-exactly-when;
-      one-judgement = one-judgement-exactly-when;
-      one-order = one-order-exactly-when;
+      one-step = one-step-exactly-when;
       starred = starred-hold;
       others = others-hold;
       each-refusal = witnesses-hold;
-      too-long = too-long-refused;
       tiled = closed-messages-are-tiled;
       ends-close = each-end-closes-a-message;
       messages-counted = messages-are-ends;
       no-end-at-0 = no-end-at-place-0;
       place-is-count = place-is-count;
       over-at-last = input-over-at-last;
-      within-room = within-room;
       never-full = unlimited-is-never-full;
+      begins = begins-the-unlimited;
+      held = held-is-unlimited;
       pull-hands-out = pull-hands-out;
       copy-refuses = copy-refused-exactly-when;
       copy-written = copy-written-exactly-when;

@@ -7,12 +7,13 @@ use lib.ListN.{length, take}
 use Rattle.index.specs.Numbers.{endOf}
 use Rattle.index.specs.Bounds.{unlimited}
 use Rattle.index.specs.Walk.{walked}
+use Rattle.index.specs.Pins as pins
 use Rattle.walk.specs.Numbers.{walkNumbers}
 use Rattle.pull.specs.Calls.{pullAt, afterCalls}
 use Rattle.publish.specs.Values.{licensed}
 use Rattle.publish.specs.Copy.{copyOf}
 use Rattle.walk_laws.specs.ExactlyWhen as exactly
-use Rattle.walk_laws.specs.OneStep as step
+use Rattle.walk_laws.specs.OneStep.{OneStepExactlyWhen}
 use Rattle.walk_laws.specs.Samples as samples
 use Rattle.walk_laws.specs.Witnesses as witnesses
 use Rattle.walk_laws.specs.Laws as laws
@@ -21,6 +22,7 @@ use Rattle.as_the_crate.specs.Overflow.{OverflowsExactlyWhen}
 use Rattle.as_the_crate.specs.Writes.{WritesAsTheRust, EveryAcceptedPlanIsNested}
 use Rattle.blindness.specs.Agree.{Alike}
 use Rattle.blindness.specs.Blindness.{One, Public}
+use Rattle.promises.specs.Public.{EachGivesItsDefinition}
 use Rattle.promises.specs.Lent as lent
 use Rattle.promises.specs.Handed.{PullHandsOut}
 use Rattle.promises.specs.CopyGiven.{CopyRefusedExactlyWhen, CopyWrittenExactlyWhen}
@@ -30,8 +32,11 @@ use Rattle.promises.specs.CFace.{faceOf}
 -- 1. Every file, plan and lent table, of any content, gets an answer, and the call ends. Bad input
 -- is refused by 01's number, with its place; what was stored before stands, all else lent is
 -- untouched.
-pub record Demand1 : Type 0 where
-  -- the walks store what they tell before their end, and leave all else; so do copy and writer
+pub record Demand1 : Type 2 where
+  -- every public function asks for nothing, can be called with any contents, ends, and gives the
+  -- definition that is written beside its name: of contents alone, wherever they lie
+  pub each-gives : (M : Type 1) → EachGivesItsDefinition M
+  -- the walks store what they tell before their end, and leave all else; a copy, a message too
   pub walk-stores : lent.WalkStores
   pub numbers-store : lent.NumbersStore
   pub copy-leaves : lent.CopyLeaves
@@ -41,42 +46,47 @@ pub record Demand1 : Type 0 where
 -- Rust on every file (to 2^40 octets) on which it doesn't overflow and whose lines the tables hold.
 -- An accepted plan is written as defined and reads back.
 pub record Demand2 : Type 0 where
-  -- a walk is refused by 1 to 14, or ends clean, exactly when 01's rows say so; so one read, one
-  -- judgement, and a bare list of section numbers
+  -- a row is a section as it stands in the file, each where 01 says, none left out; a line has the
+  -- last section of each number before its section 7, one line for each 7
+  pub rows-are-laid-out : pins.RowsAreLaidOut
+  pub over-tells-all : pins.OverTellsAll
+  pub just-read-stands-next : pins.JustReadStandsNext
+  pub lines-are-pinned : pins.LinesArePinned
+  pub a-line-for-each-7 : pins.ALineForEach7
+  -- a walk is refused by 1 to 14, or ends clean, exactly when 01's rows say so; so is one read, one
+  -- judgement, a bare list of section numbers
   pub walk-refuses : exactly.WalkRefusedExactlyWhen
   pub walk-ends-clean : exactly.WalkCleanExactlyWhen
-  pub one-read : step.OneReadExactlyWhen
-  pub one-judgement : step.OneJudgementExactlyWhen
-  pub one-order : step.OneOrderExactlyWhen
+  pub one-step : OneStepExactlyWhen
   -- document 01's samples, and walks that give each refusal
   pub starred : samples.StarredHold
   pub others : samples.OthersHold
   pub each-refusal : witnesses.WitnessesHold
-  pub too-long : witnesses.TooLongRefused
   -- closed messages are tiled by their sections, every section 8 closes one, and they are counted
   pub tiled : laws.ClosedMessagesAreTiled
   pub ends-close : laws.EachEndClosesAMessage
   pub messages-counted : laws.MessagesAreEnds
-  -- a true section 8 never has place 0: in a line 0 says "goes on" and nothing else
+  -- no section 8 has place 0: in a line 0 says "goes on"; a refusal's place counts the sections
   pub no-end-at-0 : laws.NoEndAtPlace0
-  -- a refusal's place counts the sections told, or is the last one's
   pub place-is-count : laws.PlaceIsCount
   pub over-at-last : laws.InputOverAtLast
-  -- lent tables hold what is told; unlimited ones are never full
-  pub within-room : laws.WithinRoom
+  -- lent tables of any size get the beginning of the unlimited walk, and all of it if they hold it
   pub never-full : laws.UnlimitedIsNeverFull
+  pub begins : laws.BeginsTheUnlimited
+  pub held : laws.HeldIsUnlimited
   -- the pull reader hands out the walk's sections, its refusal once, then "ended"
   pub pull-hands-out : PullHandsOut
   -- a copy is refused by 1, 19 or the walk's refusals, or written, exactly when 01 says
   pub copy-refuses : CopyRefusedExactlyWhen
   pub copy-written : CopyWrittenExactlyWhen
-  -- a plan is refused by 15 to 19, or taken, exactly when 01 says, and then reads back
+  -- a plan is refused by 15 to 19, or taken, exactly when 01 says, and what is written reads back
   pub plan-refused : plan.PlanRefusedExactlyWhen
   pub plan-taken : plan.PlanTakenExactlyWhen
   pub one-message : plan.OneMessageIsInOrder
   pub reads-back : plan.WrittenReadsBack
   -- the Rust, transcribed: where it does not overflow and the tables hold its lines, both walks and
-  -- the pull reader give what it tells; it overflows exactly where 01's additions refuse
+  -- the pull reader give what it tells; it overflows exactly where 01's additions refuse. That the
+  -- transcription is the crate's is tested: `tests/oracle/transcription --decide`, 2,245 files
   pub walk-is-the-rust's : rust.WalkEqualsTheRust
   pub numbers-are-the-rust's : rust.WalkNumbersEqualsTheRust
   pub pull-is-the-rust's : rust.PullEqualsTheRust
@@ -91,7 +101,7 @@ pub record Demand2 : Type 0 where
 pub record Demand3 : Type 0 where
   -- sections, lines, counts and end with any tables, decoded fields, the public copy and its call
   pub equal-files : (f g : List ℕ) → Alike licensed f g → One licensed f g
-  -- the same of the walk in numbers, of the C face's fields and of the pull reader
+  -- so do the walk in numbers, the C face's fields and the pull reader
   pub equal-numbers : (f g : List ℕ) → Alike licensed f g → (rows lines : List ℕ)
       → walkNumbers f rows lines ≡ walkNumbers g rows lines
   pub equal-faces : (f g : List ℕ) → Alike licensed f g

@@ -45,17 +45,16 @@ use Rattle.walk_laws.specs.OneStep.{
   overInside,
   misplacedThere,
   noGridThere,
-  OneReadExactlyWhen,
-  OneJudgementExactlyWhen,
-  OneOrderExactlyWhen,
+  ReadByRows,
+  OneStepExactlyWhen,
 }
 use Rattle.walk_laws.proofs.OneRead.{Tells, refuses, reads, over, tells, refused-there, section-there, none-read}
 use Rattle.walk_laws.proofs.OneSection.{Stands, fits, closes, misplaced, noGrid, stands}
 use Rattle.walk_laws.proofs.WholeWalk.{Said, said, not-between}
 
-pub one-read-exactly-when : OneReadExactlyWhen
+pub one-read : (file : List ℕ) (at rest : ℕ) → ReadByRows file at rest (readNumbers (readAt file at rest))
 unfolding readNumbers
-one-read-exactly-when file at rest =
+one-read file at rest =
     record {
       refuses = λ n offset d. (
         refused (readAt file at rest) (tells file at rest),
@@ -106,9 +105,9 @@ no-grid-can't order n (after, four) can = ⊎-elim (λ z. omega arith) (λ z. om
 closes-can : (order : Order) (n : ℕ) → ClosesMessage order n → CanCome order n
 closes-can order n (after, eight) = subst (λ (o : Order). CanCome o n) (sym after) (inl eight)
 
-pub one-judgement-exactly-when : OneJudgementExactlyWhen
+pub one-judgement : (order : Order) (number : ℕ) → JudgedByRows order number (judgedNumbers (judged order number))
 unfolding judgedNumbers
-one-judgement-exactly-when order number = go (judged order number) (stands order number)
+one-judgement order number = go (judged order number) (stands order number)
   where
     go : (j : Judged) → Stands order number j → JudgedByRows order number (judgedNumbers j)
     go _ (fits {next} leads can grid ajar) =
@@ -234,9 +233,10 @@ stopped-no-grid order n place later none = go (judged order n) (stands order n)
     go _ (misplaced can′t grid) = absurd (grid none)
     go _ (noGrid grid) = refl
 
-pub one-order-exactly-when : OneOrderExactlyWhen
+pub one-order : (numbers : List ℕ) (n p d : ℕ)
+    → Iff (orderEndOf numbers (orderOf numbers) ≡ orderEnd n p d) (OrderGiven numbers n p d)
 unfolding orderOf orderEndOf orderFrom isBetween
-one-order-exactly-when numbers n p d = (
+one-order numbers n p d = (
   (λ e. subst (λ (x : OrderEnd). OrderGiven numbers (x .outcome) (x .place) (x .detail)) e
       (from-there [] numbers BetweenMessages noNumber)),
   back numbers n p d,
@@ -257,3 +257,6 @@ one-order-exactly-when numbers n p d = (
         (runs c (number ∷ after)
         ∙ stopped-no-grid order number (length before) (λ next. orderFrom next (length before + 1) after) none)
         ∙ ap (orderEnd 12 (length before)) (at-place before after number)
+
+pub one-step-exactly-when : OneStepExactlyWhen
+one-step-exactly-when = record { one-read = one-read; one-judgement = one-judgement; one-order = one-order }

@@ -111,16 +111,11 @@ pub data OrderGiven : List ℕ → ℕ → ℕ → ℕ → Type 0 where
       → NoGridYet order number
       → OrderGiven (before ++ (number ∷ after)) 12 (length before) number
 
--- One read, one judgement, one bare list.
-abbrev pub OneReadExactlyWhen : Type 0
-OneReadExactlyWhen =
-    (file : List ℕ) (at rest : ℕ) → ReadByRows file at rest (readNumbers (readAt file at rest))
-
-abbrev pub OneJudgementExactlyWhen : Type 0
-OneJudgementExactlyWhen =
-    (order : Order) (number : ℕ) → JudgedByRows order number (judgedNumbers (judged order number))
-
-abbrev pub OneOrderExactlyWhen : Type 0
-OneOrderExactlyWhen =
-    (numbers : List ℕ) (n p d : ℕ)
-    → Iff (orderEndOf numbers (orderOf numbers) ≡ orderEnd n p d) (OrderGiven numbers n p d)
+-- One read, one judgement, one bare list: exactly when.
+pub record OneStepExactlyWhen : Type 0 where
+  pub one-read : (file : List ℕ) (at rest : ℕ)
+      → ReadByRows file at rest (readNumbers (readAt file at rest))
+  pub one-judgement : (order : Order) (number : ℕ)
+      → JudgedByRows order number (judgedNumbers (judged order number))
+  pub one-order : (numbers : List ℕ) (n p d : ℕ)
+      → Iff (orderEndOf numbers (orderOf numbers) ≡ orderEnd n p d) (OrderGiven numbers n p d)
