@@ -20,7 +20,7 @@ use Rattle.framing.proofs.NextStart.{start-room, start-says, is-start, 
 use Rattle.framing.proofs.OneRead.{Goes, Opens, Closes, Heads, Reads, opens, closes, heads, over-between, over-within, refuses, reads}
 
 -- the test of four octets
-spells : (file : List ℕ) (at a b c d : ℕ) → says file at a b c d ≡ true → Spells file at a b c d
+pub spells : (file : List ℕ) (at a b c d : ℕ) → says file at a b c d ≡ true → Spells file at a b c d
 unfolding says
 spells file at a b c d e =
     let three = and-both _ _ e in
@@ -33,10 +33,10 @@ unfolding says
 says-so file at a b c d (p, q, r, s) = and-of (and-of (and-of (eq-eqb _ _ p) (eq-eqb _ _ q)) (eq-eqb _ _ r)) (eq-eqb _ _ s)
 
 -- the next start
-has-grib : (file : List ℕ) (g : ℕ) → startsAt file g ≡ true → HasGrib file g
+pub has-grib : (file : List ℕ) (g : ℕ) → startsAt file g ≡ true → HasGrib file g
 has-grib file g e = (start-room file g e, spells file g 71 82 73 66 (start-says file g e))
 
-first-grib : (file : List ℕ) (at g : ℕ) → IsNextStart file at (At g) → FirstGrib file at g
+pub first-grib : (file : List ℕ) (at g : ℕ) → IsNextStart file at (At g) → FirstGrib file at g
 first-grib file at g (from, there, none) = (
   from,
   has-grib file g there,

@@ -20,7 +20,7 @@ use Rattle.framing.specs.LaidOut.{
 use Rattle.framing.specs.declared.read.Section.{Section}
 
 -- there is one first "GRIB"
-one-grib : (file : List ℕ) (at g h : ℕ) → FirstGrib file at g → FirstGrib file at h → g ≡ h
+pub one-grib : (file : List ℕ) (at g h : ℕ) → FirstGrib file at g → FirstGrib file at h → g ≡ h
 one-grib file at g h (low, there, none) (low′, there′, none′) =
     let a : Not (g < h) = λ less. none′ g low less there in let b : Not (h < g) = λ less. none h low′ less there′ in omega arith
 

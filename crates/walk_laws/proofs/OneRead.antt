@@ -14,7 +14,7 @@ use Rattle.sections.specs.declared.kinds.LeastOf.{LeastOf}
 use Rattle.sections.specs.declared.kinds.LeastOf.the-variants.{Octets, NoHeader}
 use Rattle.sections.specs.declared.kinds.MaybeKind.{MaybeKind}
 use Rattle.framing.specs.Search.{says, IsNextStart, nextStart}
-use Rattle.framing.specs.LaidOut.{sectionOf}
+use Rattle.framing.specs.LaidOut.{HasGrib, FirstGrib, sectionOf, statedLength, statedNumber}
 use Rattle.framing.specs.Framing.{refusedAt, indicatorAt, endAt, isCut, payloadAt, headerAt, messageAt, readAt}
 use Rattle.framing.specs.declared.search.Found.{Found}
 use Rattle.framing.specs.declared.search.Found.the-variants.{At, Nowhere}
@@ -22,8 +22,10 @@ use Rattle.framing.specs.declared.read.Section.{Section as Listed}
 use Rattle.framing.specs.declared.read.Fault.{Fault}
 use Rattle.framing.specs.Read.{Read}
 use Rattle.framing.specs.Read.{Section, Over}
-use Rattle.framing.proofs.Tests.{by-test, and-both, and-of, or-neither}
-use Rattle.framing.proofs.NextStart.{next-start-first, next-start-is}
+use Rattle.framing.proofs.Tests.{by-test, never-both, and-both, or-neither}
+use Rattle.framing.proofs.NextStart.{is-start, next-start-first}
+use Rattle.framing.proofs.LaidOut.{spells, says-so, first-grib}
+use Rattle.framing.proofs.OneLayout.{one-grib}
 use Rattle.index.specs.Numbers.{faultNumber, faultDetail}
 use Rattle.walk_laws.specs.Rows.{Rows, FirstRow}
 use Rattle.walk_laws.specs.ExactlyWhen.{
@@ -32,8 +34,6 @@ use Rattle.walk_laws.specs.ExactlyWhen.{
   total,
   rows0,
   NotSevens,
-  len,
-  numberThere,
   payload,
   PayloadCut,
   leastOctets,
@@ -62,8 +62,7 @@ module _ (file : List ℕ) (at rest : ℕ) where
   module _ (P Q : Listed → ℕ → Rows → Type 0) where
     pub both : InHand file at rest P → InHand file at rest Q → InHand file at rest (λ s behind rows. P s behind rows × Q s behind rows)
     both (hand0 {g} z first p) (hand0 {g = g′} z′ first′ q) =
-        let e : At g′ ≡ At g = next-start-is file at (At g′) first′ ∙ sym (next-start-is file at (At g) first) in
-        let same : g′ ≡ g = cc in
+        let same : g′ ≡ g = one-grib file at g′ g first′ first in
         hand0 z first (p, subst (λ (x : ℕ). Q (sectionOf 0 x 16) (total file x - 16) (rows0 file x)) same q)
     both (hand0 z first p) (hand8 z′ i q) = absurd (omega arith)
     both (hand0 z first p) (behindHeader a b i q) = absurd (a z)
@@ -134,24 +133,6 @@ by-kind n =
         more : (k : ℕ) → k ≤ n → eqb n k ≡ false → k + 1 ≤ n
         more k low e = let other = eqb-false n k e in omega arith
 
--- "7777" by the test
-sevens : (file : List ℕ) (at : ℕ) → says file at 55 55 55 55 ≡ true → Not (NotSevens file at)
-unfolding says
-sevens file at e =
-    let c = and-both _ _ e in
-    let b = and-both _ _ (c .0) in
-    let a = and-both _ _ (b .0) in
-    λ other. other (eqb-true _ _ (a .0), eqb-true _ _ (a .1), eqb-true _ _ (b .1), eqb-true _ _ (c .1))
-
-not-sevens : (file : List ℕ) (at : ℕ) → says file at 55 55 55 55 ≡ false → NotSevens file at
-unfolding says
-not-sevens file at e h =
-    let t : says file at 55 55 55 55 ≡ true =
-    and-of (and-of (and-of (eq-eqb _ _ (h .0)) (eq-eqb _ _ (h .1))) (eq-eqb _ _ (h .2))) (eq-eqb _ _ (h .3)) in
-    let z : true ≡ false = sym t ∙ e in
-    let y : _≡_ {A = ℕ} 0 1 = cc in
-    omega arith
-
 -- all that a read can be
 pub data Tells (file : List ℕ) (at rest : ℕ) : Read → Type 0 where
   refuses : {fault : Fault} {o : ℕ} → CannotBeRead file at rest (faultNumber fault) o (faultDetail fault)
@@ -194,7 +175,7 @@ module _ (file : List ℕ) (at rest : ℕ) where
   abbrev T : Read → Type 0
   T = Tells file at rest
 
-  tells-indicator : (g : ℕ) → rest ≡ 0 → IsNextStart file at (At g) → T (indicatorAt file g)
+  tells-indicator : (g : ℕ) → rest ≡ 0 → FirstGrib file at g → T (indicatorAt file g)
   unfolding indicatorAt faultNumber faultDetail
   tells-indicator g z first =
       by-test T (not (eqb (edition file g) 2)) (λ e. refuses (hand0 z first (refl, inl (not-true _ _ e, refl, refl)))) λ e.
@@ -215,8 +196,8 @@ module _ (file : List ℕ) (at rest : ℕ) where
 
   tells-message : (found : Found) → rest ≡ 0 → IsNextStart file at found → T (messageAt file found)
   unfolding messageAt
-  tells-message (At g) z first = tells-indicator g z first
-  tells-message Nowhere z none = over (noStart z none)
+  tells-message (At g) z first = tells-indicator g z (first-grib file at g first)
+  tells-message Nowhere z none = over (noStart z (λ g from (room, letters). none g from (is-start file g room (says-so file g 71 82 73 66 letters))))
 
   module _ (inside : at < length file) where
     tells-end : rest ≡ 4 → T (endAt file at)
@@ -228,35 +209,35 @@ module _ (file : List ℕ) (at rest : ℕ) where
         refuses (hand8 last inside (refl, inl ((omega arith, omega arith), refl, refl)))) λ e.
         let no2 : Not ((1 ≤ left file at) × (left file at ≤ 3)) = λ h. let k = ltb-false (left file at) 4 e in omega (arith, h .1) in
         by-test T (says file at 55 55 55 55)
-        (λ e. reads (hand8 last inside (refl, refl, (no2, (sevens file at e, tt))))) λ e.
-        refuses (hand8 last inside (refl, inr (no2, inl (not-sevens file at e, refl, refl))))
+        (λ e. reads (hand8 last inside (refl, refl, (no2, ((λ other. other (spells file at 55 55 55 55 e)), tt))))) λ e.
+        refuses (hand8 last inside (refl, inr (no2, inl ((λ there. never-both (says-so file at 55 55 55 55 there) e), refl, refl))))
 
     module _ (within : Not (rest ≡ 0)) (not-last : Not (rest ≡ 4)) where
       refuses-here : (fault : Fault) → FirstRow (rowsBehindHeader file at rest) (faultNumber fault) (faultDetail fault) → T (refusedAt fault at)
       refuses-here fault first = refuses (behindHeader within not-last inside (refl, first))
 
-      tells-payload : (least : LeastOf) → leastPayloadOf (numberThere file at) ≡ least → Headed (numberThere file at) least
-          → 5 ≤ left file at → 5 ≤ len file at
-          → T (payloadAt least at (numberThere file at) (len file at) (left file at) rest)
+      tells-payload : (least : LeastOf) → leastPayloadOf (statedNumber file at) ≡ least → Headed (statedNumber file at) least
+          → 5 ≤ left file at → 5 ≤ statedLength file at
+          → T (payloadAt least at (statedNumber file at) (statedLength file at) (left file at) rest)
       unfolding payloadAt faultNumber faultDetail
       tells-payload NoHeader kind (bare other) l5 n5 =
           refuses-here _ (inr ((λ h. omega (arith, h .1)), inr ((λ h. omega arith), inl (other, refl, refl))))
       tells-payload (Octets least) kind (headed low high same) l5 n5 =
           let no2 : Not ((1 ≤ left file at) × (left file at ≤ 4)) = λ h. omega (arith, h .1) in
-          let no6 : Not (len file at < 5) = λ h. omega arith in
-          let no7 : Not (Not ((1 ≤ numberThere file at) × (numberThere file at ≤ 7))) = λ h. h (low, high) in
-          by-test T (isCut (numberThere file at) (len file at) (left file at))
+          let no6 : Not (statedLength file at < 5) = λ h. omega arith in
+          let no7 : Not (Not ((1 ≤ statedNumber file at) × (statedNumber file at ≤ 7))) = λ h. h (low, high) in
+          by-test T (isCut (statedNumber file at) (statedLength file at) (left file at))
           (λ e.
           let c = cut-is _ _ _ e l5 n5 high in
           refuses-here _ (inr (no2, inr (no6, inr (no7, inl ((low, c .0, c .1), refl, refl)))))) λ e.
           let no2′ : Not (PayloadCut file at) = λ h. whole-is _ _ _ e (h .1, h .2) in
           by-test T (ltb (payload file at) least)
           (λ e. refuses-here _ (inr (no2, inr (no6, inr (no7, inr (no2′, inl (rw same (ltb-true _ _ e), refl, refl))))))) λ e.
-          let no8 : Not (payload file at < leastOctets (numberThere file at)) =
+          let no8 : Not (payload file at < leastOctets (statedNumber file at)) =
           rw same (λ h. let k = ltb-false (payload file at) least e in omega arith) in
-          by-test T (ltb rest (len file at))
+          by-test T (ltb rest (statedLength file at))
           (λ e. refuses-here _ (inr (no2, inr (no6, inr (no7, inr (no2′, inr (no8, inl (ltb-true _ _ e, refl, refl)))))))) λ e.
-          let no9 : Not (rest < len file at) = λ h. let k = ltb-false rest (len file at) e in omega arith in
+          let no9 : Not (rest < statedLength file at) = λ h. let k = ltb-false rest (statedLength file at) e in omega arith in
           reads (behindHeader within not-last inside (refl, refl, (no2, (no6, (no7, (no2′, (no8, (no9, tt))))))))
 
       tells-header : T (headerAt file at rest)
@@ -265,9 +246,9 @@ module _ (file : List ℕ) (at rest : ℕ) where
           by-test T (ltb (left file at) 5)
           (λ e. let k = ltb-true (left file at) 5 e in refuses-here _ (inl ((omega arith, omega arith), refl, refl))) λ e.
           let l5 = ltb-false (left file at) 5 e in
-          by-test T (ltb (len file at) 5)
+          by-test T (ltb (statedLength file at) 5)
           (λ e. refuses-here _ (inr ((λ h. omega (arith, h .1)), inl (ltb-true _ _ e, refl, refl)))) λ e.
-          tells-payload (leastPayloadOf (numberThere file at)) refl (by-kind (numberThere file at)) l5 (ltb-false _ _ e)
+          tells-payload (leastPayloadOf (statedNumber file at)) refl (by-kind (statedNumber file at)) l5 (ltb-false _ _ e)
 
   pub tells : T (readAt file at rest)
   unfolding readAt

@@ -10,8 +10,15 @@ use lib.ListN.{length, getD}
 use Rattle.octets.specs.Words.{Not, Iff}
 use Rattle.octets.specs.BigEndian.{beAt}
 use Rattle.framing.specs.Search.{IsNextStart}
-use Rattle.framing.specs.declared.search.Found.the-variants.{At, Nowhere}
 use Rattle.framing.specs.LaidOut.{sectionOf}
+use Rattle.framing.specs.LaidOut.{
+  Spells,
+  HasGrib,
+  FirstGrib,
+  sectionOf,
+  statedLength,
+  statedNumber,
+}
 use Rattle.framing.specs.declared.read.Section.{Section}
 use Rattle.order.specs.declared.Order.{Order}
 use Rattle.order.specs.declared.Order.the-variants.{
@@ -70,9 +77,7 @@ EndCut file at = (1 ≤ left file at) × (left file at ≤ 3)
 
 -- 5: section 8 not "7777"
 abbrev pub NotSevens : List ℕ → ℕ → Type 0
-NotSevens file at =
-    Not ((getD file at 0 ≡ 55) × (getD file (at + 1) 0 ≡ 55) × (getD file (at + 2) 0 ≡ 55)
-    × (getD file (at + 3) 0 ≡ 55))
+NotSevens file at = Not (Spells file at 55 55 55 55)
 
 -- Section 8: 2, 5.
 abbrev pub rows8 : List ℕ → ℕ → Rows
@@ -82,14 +87,8 @@ rows8 file at =
     noMore)
 
 -- A header: length in 4, number in 1; then length less 5 of payload.
-abbrev pub len : List ℕ → ℕ → ℕ
-len file at = beAt file at 4
-
-abbrev pub numberThere : List ℕ → ℕ → ℕ
-numberThere file at = getD file (at + 4) 0
-
 abbrev pub payload : List ℕ → ℕ → ℕ
-payload file at = len file at - 5
+payload file at = statedLength file at - 5
 
 -- 2: 1 to 4 octets left for a header
 abbrev pub HeaderCut : List ℕ → ℕ → Type 0
@@ -97,59 +96,59 @@ HeaderCut file at = (1 ≤ left file at) × (left file at ≤ 4)
 
 -- 6: section length under 5
 abbrev pub LengthUnder5 : List ℕ → ℕ → Type 0
-LengthUnder5 file at = len file at < 5
+LengthUnder5 file at = statedLength file at < 5
 
 -- 7: number not 1 to 7 in a header
 abbrev pub NumberNot1To7 : List ℕ → ℕ → Type 0
-NumberNot1To7 file at = Not ((1 ≤ numberThere file at) × (numberThere file at ≤ 7))
+NumberNot1To7 file at = Not ((1 ≤ statedNumber file at) × (statedNumber file at ≤ 7))
 
 -- 2: payload of 1 to 6 cut; and a section 6 of length 5 is 2 if the file ends after its header
 abbrev pub PayloadCut : List ℕ → ℕ → Type 0
 PayloadCut file at =
-    (1 ≤ numberThere file at)
-    × (numberThere file at ≤ 6)
-    × ((left file at < len file at)
-    ⊎ ((numberThere file at ≡ 6) × (len file at ≡ 5) × (left file at ≡ 5)))
+    (1 ≤ statedNumber file at)
+    × (statedNumber file at ≤ 6)
+    × ((left file at < statedLength file at)
+    ⊎ ((statedNumber file at ≡ 6) × (statedLength file at ≡ 5) × (left file at ≡ 5)))
 
 -- 8: payload under its least, of sections 1 to 7: 16, none, 9, 4, 6, 1, none
 abbrev pub leastOctets : ℕ → ℕ
 leastOctets number = getD (16 ∷ 0 ∷ 9 ∷ 4 ∷ 6 ∷ 1 ∷ 0 ∷ []) (number - 1) 0
 
 abbrev pub UnderLeast : List ℕ → ℕ → Type 0
-UnderLeast file at = payload file at < leastOctets (numberThere file at)
+UnderLeast file at = payload file at < leastOctets (statedNumber file at)
 
 -- 9: section longer than the rest
 abbrev pub LongerThanRest : List ℕ → ℕ → ℕ → Type 0
-LongerThanRest file at rest = rest < len file at
+LongerThanRest file at rest = rest < statedLength file at
 
 -- A section with a header: 2 (header), 6, 7, 2 (payload), 8, 9.
 abbrev pub rowsBehindHeader : List ℕ → ℕ → ℕ → Rows
 rowsBehindHeader file at rest =
     row 2 (HeaderCut file at) 0
-    (row 6 (LengthUnder5 file at) (len file at)
-    (row 7 (NumberNot1To7 file at) (numberThere file at)
+    (row 6 (LengthUnder5 file at) (statedLength file at)
+    (row 7 (NumberNot1To7 file at) (statedNumber file at)
     (row 2 (PayloadCut file at) 0
     (row 8 (UnderLeast file at) (payload file at)
-    (row 9 (LongerThanRest file at rest) (len file at)
+    (row 9 (LongerThanRest file at rest) (statedLength file at)
     noMore)))))
 
 -- The section in hand where a read is made at `at` with `rest` octets of the message to come: this
 -- is so of it, of the octets of the message behind it, and of its rows.
 pub data InHand (file : List ℕ) (at rest : ℕ) (So : Section → ℕ → Rows → Type 0) : Type 0 where
-  hand0 : {g : ℕ} → rest ≡ 0 → IsNextStart file at (At g)
+  hand0 : {g : ℕ} → rest ≡ 0 → FirstGrib file at g
       → So (sectionOf 0 g 16) (total file g - 16) (rows0 file g)
       → InHand file at rest So
   hand8 : rest ≡ 4 → at < length file → So (sectionOf 8 at 4) 0 (rows8 file at)
       → InHand file at rest So
   behindHeader : Not (rest ≡ 0) → Not (rest ≡ 4) → at < length file
-      → So (sectionOf (numberThere file at) at (len file at)) (rest - len file at)
+      → So (sectionOf (statedNumber file at) at (statedLength file at)) (rest - statedLength file at)
       (rowsBehindHeader file at rest)
       → InHand file at rest So
 
 -- there is none, the input is over: no message starts, or no octet is left where a header or
 -- section 8 is due
 pub data NoneInHand (file : List ℕ) (at rest : ℕ) : Type 0 where
-  noStart : rest ≡ 0 → IsNextStart file at Nowhere → NoneInHand file at rest
+  noStart : rest ≡ 0 → ((g : ℕ) → at ≤ g → Not (HasGrib file g)) → NoneInHand file at rest
   noOctet : Not (rest ≡ 0) → length file ≤ at → NoneInHand file at rest
 
 -- it can't be read: the first row that holds has this number and detail, and the section would have
