@@ -39,10 +39,10 @@ use Rattle.writer.proofs.Written as Written
 use Rattle.framing.proofs.NextStart.{next-start-is}
 use Rattle.pull.specs.declared.Progress.{Progress}
 use Rattle.pull.specs.declared.Pulled.{Pulled}
-use Rattle.promises.specs.Public.{EachGivesItsDefinition}
+use Rattle.promises.specs.Public.{PublicFunctions, EachGivesItsDefinition}
 use Rattle.promises.proofs.Called.{Plain, plain-array, Element, by-value, to-read, to-write, by}
 use Rattle.promises.proofs.NextCalled.{next-can-be-called}
-use Rattle.promises.proofs.Told.{both, three}
+use Rattle.promises.proofs.Told.{both, three, promised}
 
 -- what is passed by value, and what stands in lent slices
 plain-number : (w : Width) → Plain (UInt w)
@@ -94,8 +94,8 @@ one-turn : {answer one : Pulled} {file held : RefT (List ℕ)} {progress next : 
 one-turn a h p = rw (a, h, p)
 
 module _ {M : Type 1} where
-  pub each-gives-its-definition : EachGivesItsDefinition M
-  each-gives-its-definition = record {
+  public-functions : PublicFunctions M
+  public-functions = record {
     octets-be16 = by 0 (by-value (plain-array _ 2 (plain-number w8)) ∷ []) (λ n. refl) (λ 𝓤 H A content run κs a. tt) octets.be16.Met.met (λ n r e. id⊢ (n .memory) _);
     octets-be32 = by 0 (by-value (plain-array _ 4 (plain-number w8)) ∷ []) (λ n. refl) (λ 𝓤 H A content run κs a. tt) octets.be32.Met.met (λ n r e. id⊢ (n .memory) _);
     octets-be64 = by 0 (by-value (plain-array _ 8 (plain-number w8)) ∷ []) (λ n. refl) (λ 𝓤 H A content run κs a. tt) octets.be64.Met.met (λ n r e. id⊢ (n .memory) _);
@@ -132,12 +132,9 @@ module _ {M : Type 1} where
     pull-pull-at = by 1 (to-read 0 tt (number w8) ∷ by-value plain-Progress ∷ []) (λ n. refl) (λ 𝓤 H A content run κs a. tt) pull.pull_at.Met.met (λ n r e. id⊢ (n .memory) _);
     pull-new = by 1 (to-read 0 tt (number w8) ∷ []) (λ n. refl) (λ 𝓤 H A content run κs a. tt) pull.new.Met.met (λ n r e. fact-mono (n .memory) _ _ (λ h. one-reader (h .0) (h .1)));
     pull-new-holds = λ n r e. fact-mono (n .memory) _ _ (λ h. h .0);
-    pull-Reader-next = record {
-      asks-nothing = λ n. refl;
-      can-be-called = next-can-be-called (number w8, (plain-Progress, tt));
-      answers = pull.Reader.next.Met.met;
-      seen-is = λ n r e. fact-mono (n .memory) _ _ (λ h. one-turn (h .0) (h .1 .0) (h .1 .1));
-    };
+    pull-Reader-next =
+        promised (λ n. refl) (next-can-be-called (number w8, (plain-Progress, tt))) pull.Reader.next.Met.met
+        (λ n r e. fact-mono (n .memory) _ _ (λ h. one-turn (h .0) (h .1 .0) (h .1 .1)));
     pull-Reader-next-keeps = λ n r e. fact-mono (n .memory) _ _ (λ h. h .1 .0);
     publish-publish = by 2 (to-read 0 tt (number w8) ∷ to-write 1 tt (number w8) ∷ []) (λ n. refl) (λ 𝓤 H A content run κs a. tt) publish.publish.Met.met (λ n r e. both (n .memory) (λ answer dest. (answer, dest)));
     publish-copy-end = by 0 (by-value plain-Published ∷ []) (λ n. refl) (λ 𝓤 H A content run κs a. tt) publish.copy_end.Met.met (λ n r e. id⊢ (n .memory) _);
@@ -153,3 +150,6 @@ module _ {M : Type 1} where
     buttresk-representation = by 1 (to-read 0 tt (number w8) ∷ []) (λ n. refl) (λ 𝓤 H A content run κs a. tt) buttresk.buttresk_representation.Met.met (λ n r e. id⊢ (n .memory) _);
     buttresk-bit-map = by 1 (to-read 0 tt (number w8) ∷ []) (λ n. refl) (λ 𝓤 H A content run κs a. tt) buttresk.buttresk_bit_map.Met.met (λ n r e. id⊢ (n .memory) _);
   }
+
+pub each-gives-its-definition : EachGivesItsDefinition
+each-gives-its-definition M = public-functions

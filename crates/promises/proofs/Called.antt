@@ -36,8 +36,9 @@ use denote.RattleType.{RattleType, Denots, Valss, owns}
 use denote.Shadow.{shadow, Pure, makes-shadow}
 use denote.Signature.{Slot, typeAt, typesAt}
 use denote.Slice.{ShrSlice, MutSlice, sliceVal}
-use Rattle.promises.specs.Contract.{Contract, Seen, asked, AsksNothing, Answers, SeenIs, CanBeCalled, Promised}
-use Rattle.promises.specs.Parameters.{Parameter, value, lent, lentMut, AllRepresentable, slotOf, slotsOf, signed, Content, Contents, contentOf, contentsOf, MayPass, MayPassAll}
+use Rattle.promises.proofs.Told.{promised}
+use Rattle.promises.specs.Contract.{Contract, SeenAtExit, asked, AsksNothing, Answers, SeenIs, CanBeCalled, Promised}
+use Rattle.promises.specs.Parameters.{Parameter, value, lent, lentMut, AllRepresentable, slotOf, slotsOf, functionOf, Content, Contents, contentOf, contentsOf, MayPass, MayPassAll}
 
 -- data that owns only facts
 pub record Plain (R : RattleType) : Type 2 where
@@ -264,9 +265,9 @@ module _ {M : Type 1} (𝓤 : URA M) (H : Heap 𝓤) (𝓜 : Model 𝓤 H) (𝓖
 
 -- so every function of such parameters, whose contract asks for nothing, can be called
 module _ {M : Type 1} {n : ℕ} (ps : List (Parameter n)) (Es : KnownAll ps) {result : Slot n} where
-  pub can-be-called : (c : Contract M (signed ps result)) → AsksNothing M (signed ps result) c
+  pub can-be-called : (c : Contract M (functionOf ps result)) → AsksNothing M (functionOf ps result) c
       → ((𝓤 : URA M) (H : Heap 𝓤) (A : Atoms 𝓤) (content : Memory → SProp 𝓤) (run : Routine → Fun 𝓤) (κs : Lfts n) (a : Denots (typesAt (slotsOf ps) κs)) → c 𝓤 H A content run κs a .ghost)
-      → CanBeCalled M (signed ps result) c (contentsOf ps) (MayPassAll ps)
+      → CanBeCalled M (functionOf ps result) c (contentsOf ps) (MayPassAll ps)
   can-be-called c nothing any contents may 𝓤 H 𝓜 𝓖 𝓡 =
       let A = 𝓖 .A in
       ∥∥₁-elim (started 𝓤 H 𝓜 𝓖 n) ∥∥₁-prop λ k.
@@ -275,12 +276,12 @@ module _ {M : Type 1} {n : ℕ} (ps : List (Parameter n)) (Es : KnownAll ps) {re
       ∥∥₁-map (all-passed 𝓤 H 𝓜 𝓖 κs ps Es contents may (k .0) (sep 𝓤 tokens (emp 𝓤)) (k .2)) λ r.
       let own : SProp 𝓤 = sem 𝓤 H A (owns (typesAt (slotsOf ps) κs) (r .arguments) (r .values)) in
       let ghost = any 𝓤 H A (𝓜 .mem) (𝓡 .run) κs (r .arguments) in
-      let asks : asked M (signed ps result) c _ ≡ emp 𝓤 = nothing (record { memory = 𝓤; heap = H; atoms = A; content = 𝓜 .mem; run = 𝓡 .run; lifetimes = κs; arguments = r .arguments; ghost = ghost }) in
+      let asks : asked M (functionOf ps result) c _ ≡ emp 𝓤 = nothing (record { memory = 𝓤; heap = H; atoms = A; content = 𝓜 .mem; run = 𝓡 .run; lifetimes = κs; arguments = r .arguments; ghost = ghost }) in
       record {
         memory = r .memory;
         bound = (κs, whole n, tt, r .arguments, r .values);
         ghost = ghost;
-        is-told = r .are;
+        is-taken = r .are;
         enters = subst (λ (P : SProp 𝓤). Satisfies 𝓤 H 𝓜 (r .memory) (sep 𝓤 (sep 𝓤 tokens own) P)) (sym asks)
             (sat-weaken 𝓤 H 𝓜 (r .memory) (via 𝓤 (sep 𝓤 (sep 𝓤 own tokens) (emp 𝓤)) (assoc′ 𝓤 own tokens (emp 𝓤)) (monoL 𝓤 (emp 𝓤) (comm∗ 𝓤 own tokens))) (r .hold));
       }
@@ -308,9 +309,9 @@ module _ {n : ℕ} where
   knownOf [] = tt
   knownOf (g ∷ gs) = (g .known, knownOf gs)
 
-module _ {M : Type 1} (n : ℕ) (gs : List (Given n)) {result : Slot n} {c : Contract M (signed (parametersOf gs) result)} {routine : Routine} {O : Type 0} {seen : Seen M (signed (parametersOf gs) result) O} {definition : Contents (parametersOf gs) → O} where
-  pub by : AsksNothing M (signed (parametersOf gs) result) c
+module _ {M : Type 1} (n : ℕ) (gs : List (Given n)) {result : Slot n} {c : Contract M (functionOf (parametersOf gs) result)} {routine : Routine} {O : Type 0} {seen : SeenAtExit M (functionOf (parametersOf gs) result) O} {definition : Contents (parametersOf gs) → O} where
+  pub by : AsksNothing M (functionOf (parametersOf gs) result) c
       → ((𝓤 : URA M) (H : Heap 𝓤) (A : Atoms 𝓤) (content : Memory → SProp 𝓤) (run : Routine → Fun 𝓤) (κs : Lfts n) (a : Denots (typesAt (slotsOf (parametersOf gs)) κs)) → c 𝓤 H A content run κs a .ghost)
-      → Answers M (signed (parametersOf gs) result) c routine → SeenIs M (signed (parametersOf gs) result) c (contentsOf (parametersOf gs)) seen definition
-      → Promised M (signed (parametersOf gs) result) c routine (contentsOf (parametersOf gs)) (MayPassAll (parametersOf gs)) seen definition
-  by nothing any met says = record { asks-nothing = nothing; can-be-called = can-be-called (parametersOf gs) (knownOf gs) c nothing any; answers = met; seen-is = says }
+      → Answers M (functionOf (parametersOf gs) result) c routine → SeenIs M (functionOf (parametersOf gs) result) c (contentsOf (parametersOf gs)) seen definition
+      → Promised M (functionOf (parametersOf gs) result) c routine (contentsOf (parametersOf gs)) (MayPassAll (parametersOf gs)) seen definition
+  by nothing any met says = promised nothing (can-be-called (parametersOf gs) (knownOf gs) c nothing any) met says

@@ -31,7 +31,7 @@ use Rattle.promises.proofs.Blind.{one, public, equal-numbers, equal-fac
 pub demand-1 : Demand1
 demand-1 =
     record {
-      each-gives = λ M. each-gives-its-definition;
+      each-gives = each-gives-its-definition;
       walk-stores = walk-stores;
       numbers-store = numbers-store;
       copy-leaves = copy-leaves;

@@ -89,6 +89,6 @@ module _ {M : Type 1} (known : KnownAll parts) where
         memory = m .0;
         bound = (κs, (PosShare·left fullShare, (PosShare·right fullShare, tt)), (incl-refl κ, tt), (reader, tt), (vptr b zero ∷ [], tt));
         ghost = tt;
-        is-told = ap (λ (c : List ℕ × (Progress × Unit {0})). (c .0, c .1 .0)) (r .are);
+        is-taken = ap (λ (c : List ℕ × (Progress × Unit {0})). (c .0, c .1 .0)) (r .are);
         enters = sat-weaken 𝓤 H 𝓜 (m .0) (shared-out 𝓤 own (A .lft κ fullShare) left right (𝓖 .lfts .lft-split κ fullShare)) (g .1);
       }

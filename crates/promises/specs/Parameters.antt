@@ -1,9 +1,13 @@
 -- Parameters of the public functions, all of them plain data: by value, lent to read, or lent to
--- write. Their contents, what may be passed, and what is promised of a function that has them.
-use Prim.Native.Nat.{ℕ}
+-- write. Their contents, what may be passed, what is seen of them at exit, and what is promised of
+-- a function that has them (`Gives`). All of this is read off the parameters, and nothing of it is
+-- chosen function by function.
+use Prim.Native.Nat.{ℕ, _<_, _^_}
 use mathlib.Core.List.{List, [], _∷_}
 use lib.ListN.{length}
+use mir.Syntax.{w8, w64}
 use mir.Val.{Val}
+use prog.Model.{AllFit}
 use prog.Routine.{Routine}
 use contract.Lifetimes.{Lfts, Within}
 use denote.RattleType.{RattleType, Denots}
@@ -12,8 +16,12 @@ use denote.Shadow.{shadow}
 use denote.Signature.{Slot, plain, shrSlice, mutSlice, typeAt, typesAt}
 use denote.Slice.{Room}
 use denote.Triple.Clauses.{Ended}
+use denote.Builtin.{u8, u64}
 use denote.Exit.{yes}
 use denote.Triple.End.{Outs, all}
+use Rattle.index.proofs.line.Line as LineRow
+use Rattle.index.specs.declared.line.Line.{Line}
+use Rattle.walk.specs.Numbers.{linesOf}
 use Rattle.promises.specs.Contract.{Contract, Promised}
 
 -- a parameter of a function of n lifetimes, with its Rattle type: by value, or a slice that is lent
@@ -23,7 +31,8 @@ pub data Parameter (n : ℕ) : Type 2 where
   lent : (j : ℕ) → Within n j → RattleType → Parameter n
   lentMut : (j : ℕ) → Within n j → RattleType → Parameter n
 
--- a value that the machine can hold: of a number, that it is under its type's bound
+-- a value that the machine can hold, one that has machine values: of a number, that it is under its
+-- type's bound, and of a struct or an enum, that its numbers are
 abbrev pub Representable : (R : RattleType) → R .Denot → Type 0
 Representable R x = (vs : List Val) × shadow (R .own x vs)
 
@@ -43,8 +52,8 @@ module _ {n : ℕ} where
   slotsOf (p ∷ ps) = slotOf p ∷ slotsOf ps
 
   -- with a result, and a contract that may speak of all that is lent, as it is at exit
-  abbrev pub signed : List (Parameter n) → Slot n → Ended
-  signed ps result = record {
+  abbrev pub functionOf : List (Parameter n) → Slot n → Ended
+  functionOf ps result = record {
     signature = record { lifetimes = n; outlives = []; params = slotsOf ps; result = result };
     kept = all yes (slotsOf ps);
   }
@@ -96,8 +105,18 @@ module _ {n : ℕ} where
 
 -- what is seen is a definition of the parameters' contents
 abbrev pub Gives : (M : Type 1) (n : ℕ) (ps : List (Parameter n)) {R : RattleType}
-    → Contract M (signed ps (plain (λ _. R))) → Routine → (Contents ps → Shown (R .Denot) ps)
+    → Contract M (functionOf ps (plain (λ _. R))) → Routine → (Contents ps → Shown (R .Denot) ps)
     → Type 2
 Gives M n ps {R} c routine definition =
-    Promised M (signed ps (plain (λ _. R))) c routine (contentsOf ps) (MayPassAll ps)
+    Promised M (functionOf ps (plain (λ _. R))) c routine (contentsOf ps) (MayPassAll ps)
     (λ κs answer exit. shown ps κs answer exit) definition
+
+-- what may be lent, in plain words: octets, each under 256 and under 2^63 of them; numbers of 64
+-- bits, under 2^60 of them; submessage lines of such numbers, under 2^56 of them
+pub record MayBeLent : Type 0 where
+  pub octets : (octets : List ℕ) → AllFit w8 octets → length octets < 2 ^ 63
+      → MayPass {n = 1} (lent 0 tt u8) octets
+  pub numbers : (numbers : List ℕ) → AllFit w64 numbers → length numbers < 2 ^ 60
+      → MayPass {n = 1} (lent 0 tt u64) numbers
+  pub lines : (lines : List Line) → AllFit w64 (linesOf lines) → length lines < 2 ^ 56
+      → MayPass {n = 1} (lent 0 tt LineRow.the-row) lines

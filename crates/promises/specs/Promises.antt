@@ -35,7 +35,7 @@ use Rattle.promises.specs.CFace.{faceOf}
 pub record Demand1 : Type 2 where
   -- every public function asks for nothing, can be called with any contents, ends, and gives the
   -- definition that is written beside its name: of contents alone, wherever they lie
-  pub each-gives : (M : Type 1) → EachGivesItsDefinition M
+  pub each-gives : EachGivesItsDefinition
   -- the walks store what they tell before their end, and leave all else; a copy, a message too
   pub walk-stores : lent.WalkStores
   pub numbers-store : lent.NumbersStore

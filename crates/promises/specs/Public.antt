@@ -81,7 +81,8 @@ use Rattle.promises.specs.Parameters.{
   Gives,
 }
 
-pub record EachGivesItsDefinition (M : Type 1) : Type 2 where
+-- in memory of one kind
+pub record PublicFunctions (M : Type 1) : Type 2 where
   -- octets: big-endian numbers, and the number by sign and size
   pub octets-be16 : Gives M 0 (value (Array u8 2) ∷ []) octets.be16.clauses
       octets.be16.Symbol.routine (λ (octets, _). beAt octets 0 2)
@@ -164,7 +165,7 @@ pub record EachGivesItsDefinition (M : Type 1) : Type 2 where
       walk.walk_numbers.clauses walk.walk_numbers.Symbol.routine
       (λ (file, (rows, (lines, _))). let told = walkNumbers file rows lines in
       ((told .answer, told .rows), told .lines))
-  -- pull: of a reader the content of its file and its progress are told and seen; `new` holds the
+  -- pull: of a reader the content of its file and its progress are taken and seen; `new` holds the
   -- very file that it was lent, and `next` keeps it
   pub pull-first : Gives M 1 (lent 0 tt u8 ∷ []) pull.first.clauses pull.first.Symbol.routine
       (λ (file, _). firstOf file)
@@ -232,3 +233,7 @@ pub record EachGivesItsDefinition (M : Type 1) : Type 2 where
       (λ (payload, _). representationFields (reprDefinitionOf payload))
   pub buttresk-bit-map : Gives M 1 (lent 0 tt u8 ∷ []) buttresk.buttresk_bit_map.clauses
       buttresk.buttresk_bit_map.Symbol.routine (λ (payload, _). bitMapFields (bitMapOf payload))
+
+-- in memory of every kind
+abbrev pub EachGivesItsDefinition : Type 2
+EachGivesItsDefinition = (M : Type 1) → PublicFunctions M
