@@ -2,7 +2,11 @@
 in batches."""
 
 import subprocess
+import sys
+from pathlib import Path
 from typing import NamedTuple
+
+RUN = Path(__file__).resolve().parent.parent / "run"
 
 # --- Requests, as docs/REPLAY.md writes them -----------------------------------------------------
 
@@ -37,8 +41,11 @@ def write_request(plan):
 
 
 def run(program, octets):
-    """What a program prints, given the octets on standard input."""
-    done = subprocess.run([program], input=octets, capture_output=True, check=True)
+    """What a program prints, given the octets on standard input. `tests/run` runs it on any
+    processor, and says what is missing for that."""
+    done = subprocess.run([RUN, program], input=octets, capture_output=True)
+    if done.returncode:
+        sys.exit(f"{program}: status {done.returncode}\n{done.stderr.decode(errors='replace')}")
     return done.stdout.decode()
 
 
@@ -63,8 +70,10 @@ def answer_ends(kind):
 
 
 def split_answers(asks, said):
-    """The answers one by one; where an answer is missing or `bad`, the rest are what is left."""
-    lines, answers = said.splitlines(), []
+    """The answers one by one, and the lines behind the last; where an answer is missing or `bad`,
+    the rest are what is left."""
+    *lines, unended = said.split("\n")
+    answers = []
     for ask in asks:
         last, mine = answer_ends(chr(ask.request[0])), []
         while lines:
@@ -74,11 +83,12 @@ def split_answers(asks, said):
             if done:
                 break
         answers.append("\n".join(mine))
-    return answers
+    return answers, lines + [unended] * (unended != "")
 
 
 class Replay:
-    """Asks are gathered until a run is full. An answer that is not as expected goes to `report`."""
+    """Asks are gathered until a run is full. An answer that is not as expected goes to `report`, and
+    so does what stands behind the last one."""
 
     def __init__(self, program, report):
         self.program, self.report = program, report
@@ -96,9 +106,12 @@ class Replay:
         said = run(self.program, octets)
         # Equal as a whole is the common case, and the quick one.
         if said != "".join(ask.expected + "\n" for ask in asks):
-            for ask, answer in zip(asks, split_answers(asks, said)):
+            answers, behind = split_answers(asks, said)
+            for ask, answer in zip(asks, answers):
                 if answer != ask.expected:
                     self.report(ask, answer)
+            if behind:
+                self.report(Ask("what stands behind the last answer", octets, ""), "\n".join(behind))
 
 
 # --- The oracle ----------------------------------------------------------------------------------

@@ -1,9 +1,9 @@
 -- The payload of each section listed is the plan's part of the store.
 use Prim.Native.Nat.{ℕ, _+_, _-_}
 use native.Mathlib.Omega.{arith}
-use mathlib.Core.Path.{_≡_, refl, _∙_}
+use mathlib.Core.Path.{_≡_, refl, ap, _∙_}
 use mathlib.Core.List.{List, [], _∷_, _++_, append-assoc, map}
-use lib.ListN.{length, length-append}
+use lib.ListN.{length, take, drop, length-append}
 use lib.Seq.{take-at, drop-at, drop-append-add}
 use Rattle.writer.specs.Plan.{Part, totalOf}
 use Rattle.writer.specs.Message.{digits, indicatorOctets, sectionOctets, bodyOctets, messageOctets}
@@ -22,8 +22,9 @@ payload-there store front later part sound =
     let split : sectionOctets part store ++ later ≡ header ++ (payload ++ later) = simp append-assoc in
     let five : length header ≡ 5 = simp (length-append, length-digits) (omega arith) in
     let octets : part .length + 5 - 5 ≡ part .length = omega arith in
-    rw (octets, drop-append-add front (sectionOctets part store ++ later) 5, split, drop-at header (payload ++ later) 5 five)
-    (take-at payload later (part .length) (length-payload store part sound))
+    let behind : drop (length front + 5) (front ++ (sectionOctets part store ++ later)) ≡ payload ++ later =
+    drop-append-add front (sectionOctets part store ++ later) 5 ∙ rw split (drop-at header (payload ++ later) 5 five) in
+    rw octets (ap (take (part .length)) behind ∙ take-at payload later (part .length) (length-payload store part sound))
 
 payloads-from : (store front : List ℕ) (parts : List Part) → AllSound (length store) parts
     → map (payloadIn (front ++ bodyOctets parts store)) (sectionsFrom (length front) parts) ≡ map (partOf store) parts

@@ -1,5 +1,8 @@
 -- `surfaces_at` meets its contract: the template has the index or not.
 use borrow.Author.Needs.{needs}
+use Rattle.products.specs.Products.{surfacesOf}
+use Rattle.products.specs.declared.MaybeSurfaces.the-variants.{NoSurfaces}
+use Rattle.products.proofs.Indices.{at-index}
 use Rattle.products.proofs.surfaces_at.Statement.{statement}
 use Rattle.products.proofs.surfaces_at.Tie as tie
 
@@ -7,7 +10,8 @@ returns-2 : tie.Need-returns-2
 returns-2 c =
     let from = c .before .before in
     let index = from .before .before in
-    rw (index .index .given .1, ← (from .from .ensures), ← (c .before .from2 .ensures)) (c .surfaces-of .ensures)
+    at-index NoSurfaces surfacesOf (index .before .before .before .args .payload .now) _ _ _ _ _ (index .index .given .1) (from .from .ensures)
+    (c .before .from2 .ensures) (c .surfaces-of .ensures)
 
 pub surfaces-at-spec : {M : Type 1} → statement M
 surfaces-at-spec =
