@@ -59,8 +59,8 @@ named store part = (part .number, partOf store part)
 abbrev pub IsPlanOf : List ℕ → List ℕ → Grib2Message → Type 0
 IsPlanOf plan store m = map (named store) (partsOf plan) ≡ flattened m
 
--- where ours accepts a plan, the crate writes the message whose plan it is: it neither overflows nor
--- refuses, counts the same octets, and leaves the same destination, to the last octet
+-- where ours accepts a plan, the crate writes the message whose plan it is: it neither overflows
+-- nor refuses, counts the same octets, and leaves the same destination, to the last octet
 abbrev pub WritesAsTheRust : Type 0
 WritesAsTheRust =
     (m : Grib2Message) (plan store dest : List ℕ) (total : ℕ) → IsPlanOf plan store m

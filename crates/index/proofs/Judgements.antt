@@ -3,7 +3,7 @@
 use mathlib.Core.Path.{_≡_}
 use mathlib.Core.Bool.{true, false}
 use mathlib.Core.List.{List, [], _∷_}
-use Prim.Native.Nat.{ℕ, _+_, _≤_, _<_}
+use Prim.Native.Nat.{_+_, _≤_, _<_}
 use borrow.Author.Tests.{le-leb, lt-leb}
 use Rattle.framing.specs.declared.read.Section.{Section}
 use Rattle.order.specs.Order.{judged, completes}
@@ -14,7 +14,7 @@ use Rattle.index.specs.Lines.{place, opened, inForce, lineOf}
 use Rattle.index.specs.declared.line.Line.{Line}
 use Rattle.index.specs.declared.refusal.Refusal.the-variants as refusal
 use Rattle.index.specs.declared.bounds.Room.{Room}
-use Rattle.index.specs.Walk.{Reached, stops, passes, here, fitted, closing, byOrder, goneOn, judgement}
+use Rattle.index.specs.Walk.{Reached, stops, passes, here, fitted, closing, byOrder, judgement}
 
 module _ (room : Room) (r : Reached) (s : Section) where
   -- the line of the submessage in hand, whose message goes on

@@ -1,5 +1,5 @@
 -- A submessage's line, and the sections in force that it is made of (01, "Order").
-use Prim.Native.Nat.{ℕ, _+_}
+use Prim.Native.Nat.{ℕ}
 use mathlib.Core.List.{List}
 use lib.Dec.{eqb, ltb}
 use lib.ListN.{getD, set, replicate}

@@ -2,7 +2,7 @@
 use Prim.Native.Nat.{ℕ, zero, suc, _+_, _≤_, _<_}
 use native.Mathlib.Omega.{arith}
 use native.Mathlib.Nat.{zero-add}
-use mathlib.Core.Path.{_≡_, refl, sym, ap, subst, _∙_}
+use mathlib.Core.Path.{_≡_, refl, sym, ap, subst}
 use mathlib.Core.List.{List, [], _∷_}
 use lib.ListN.{length, getD}
 use Rattle.octets.specs.Words.{Not}
@@ -13,7 +13,6 @@ use Rattle.index.specs.declared.refusal.Outcome.{Outcome}
 use Rattle.index.specs.declared.refusal.Outcome.the-variants as outcome
 use Rattle.index.specs.Bounds.{unlimited}
 use Rattle.index.specs.Walk.{walked}
-use Rattle.pull.specs.Calls.{pullAt, afterCalls}
 use Rattle.pull.specs.Pull.{endsWith, handsOut, pulled}
 use Rattle.pull.proofs.Sequence.{sequence}
 use Rattle.walk_laws.proofs.WholeWalk.{from-1}

@@ -34,7 +34,8 @@ pub data FaceFields : Type 0 where
 unfoldable pub faceOf : List ℕ → Section → FaceFields
 faceOf file s =
     let payload = payloadOf file s in
-    pick (eqb (s .number) 0) (indicatorFace (fields.indicatorFields (indicatorOf (ownOctets file s))))
+    pick (eqb (s .number) 0)
+    (indicatorFace (fields.indicatorFields (indicatorOf (ownOctets file s))))
     (pick (eqb (s .number) 1)
     (identificationFace (fields.identificationFields (identificationOf payload)))
     (pick (eqb (s .number) 3) (gridFace (fields.gridFields (gridDefinitionOf payload)))

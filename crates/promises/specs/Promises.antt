@@ -104,8 +104,8 @@ pub record Demand3 : Type 0 where
   -- so do the walk in numbers, the C face's fields and the pull reader
   pub equal-numbers : (f g : List ℕ) → Alike licensed f g → (rows lines : List ℕ)
       → walkNumbers f rows lines ≡ walkNumbers g rows lines
-  pub equal-faces : (f g : List ℕ) → Alike licensed f g
-      → map (faceOf f) (walked unlimited f .sections) ≡ map (faceOf g) (walked unlimited g .sections)
+  pub equal-faces : (f g : List ℕ) → Alike licensed f g → map (faceOf f)
+      (walked unlimited f .sections) ≡ map (faceOf g) (walked unlimited g .sections)
   pub equal-pulls : (f g : List ℕ) → Alike licensed f g → (call : ℕ)
       → pullAt f (afterCalls call f) .answer ≡ pullAt g (afterCalls call g) .answer
   -- on a clean walk one copy in any two destinations that hold the file, and it is as good as it

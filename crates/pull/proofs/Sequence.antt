@@ -18,7 +18,7 @@ use Rattle.index.specs.declared.refusal.Outcome.{Outcome}
 use Rattle.index.specs.declared.refusal.Outcome.the-variants as outcome
 use Rattle.index.specs.Bounds.{mostOctets, unlimited}
 use Rattle.index.specs.Walk.{Reached, atStart, walked}
-use Rattle.reading.specs.Reading.{reading, start, seen}
+use Rattle.reading.specs.Reading.{reading, seen}
 use Rattle.reading.specs.declared.Reading.{Reading}
 use Rattle.reading.specs.declared.Seen.{Seen}
 use Rattle.reading.specs.declared.Seen.the-variants as seen

@@ -1,20 +1,19 @@
 -- What a walk tells from a place of the file on, by the section that is seen there: the one law that every loop over `look` cites.
-use mathlib.Core.Path.{_≡_, refl, sym, ap, subst, _∙_}
-use mathlib.Core.Bool.{Bool, true, false, false≢true}
+use mathlib.Core.Path.{_≡_, refl, sym, ap, _∙_}
+use mathlib.Core.Bool.{Bool, true, false}
 use mathlib.Core.List.{List, [], _∷_}
 use Prim.Native.Nat.{ℕ}
-use native.Mathlib.Omega.{arith}
-use lib.Dec.{ltb, leb, eqb}
+use lib.Dec.{ltb, leb}
 use lib.ListN.{length}
 use Rattle.octets.specs.Words.{pick}
 use Rattle.order.specs.Order.{judged, completes, isBetween}
 use Rattle.order.specs.declared.Order.{Order}
-use Rattle.order.specs.declared.Order.the-variants.{BetweenMessages, AfterIdentification, AfterData, SubmessageStart}
+use Rattle.order.specs.declared.Order.the-variants.{SubmessageStart}
 use Rattle.order.specs.declared.Judged.{Judged}
 use Rattle.order.specs.declared.Judged.the-variants as order
 use Rattle.order.proofs.Laws.{closes-only, no-grid-only, completes-only, starts-next}
 use Rattle.framing.specs.Framing.{readAt}
-use Rattle.framing.specs.Listing.{Listing, listedBy, listing}
+use Rattle.framing.specs.Listing.{Listing, listedBy}
 use Rattle.framing.specs.declared.read.Section.{Section}
 use Rattle.framing.specs.declared.read.Cursor.{Cursor}
 use Rattle.framing.specs.Read.{Read}

@@ -15,13 +15,13 @@ use Rattle.framing.specs.declared.read.Section.{Section}
 use Rattle.framing.specs.declared.read.Cursor.{Cursor}
 use Rattle.framing.specs.declared.read.Fault.{Fault}
 use Rattle.framing.specs.Read as read
-use Rattle.framing.proofs.OneRead.{Reads, reads-as, goes}
+use Rattle.framing.proofs.OneRead.{Reads, reads-as}
 use Rattle.index.specs.Lines.{place, opened, inForce}
 use Rattle.index.specs.declared.refusal.Refusal.the-variants as refusal
 use Rattle.index.specs.declared.refusal.Outcome.{Outcome}
 use Rattle.index.specs.declared.refusal.Outcome.the-variants.{Clean, Refused}
 use Rattle.index.specs.Bounds.{mostOctets, unlimited}
-use Rattle.index.specs.Walk.{Reached, atStart, here, goneOn, fitted, closing, Told, ends, walked}
+use Rattle.index.specs.Walk.{Reached, atStart, here, goneOn, fitted, closing, Told, walked}
 use Rattle.reading.specs.Reading.{reading, start, seen}
 use Rattle.reading.specs.declared.Reading.{Reading}
 use Rattle.reading.specs.declared.Seen.{Seen}

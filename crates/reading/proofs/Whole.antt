@@ -7,7 +7,7 @@ use mathlib.Core.Bool.{Bool, true, false, not, _&&_, _||_}
 use mathlib.Core.List.{List, [], _∷_}
 use lib.Dec.{ltb, eqb}
 use lib.ListN.{length, getD}
-use borrow.Author.Tests.{eqb-true, lt-leb, le-ltb, eq-eqb, ne-eqb}
+use borrow.Author.Tests.{eqb-true, lt-leb, le-ltb, ne-eqb}
 use Rattle.octets.specs.BigEndian.{beAt}
 use Rattle.sections.specs.Kinds.{leastPayloadOf, kindOf, kinds}
 use Rattle.sections.specs.declared.kinds.LeastOf.{LeastOf}
@@ -15,7 +15,6 @@ use Rattle.sections.specs.declared.kinds.LeastOf.the-variants.{Octets, NoHeader
 use Rattle.framing.specs.Search.{says}
 use Rattle.framing.specs.Framing.{sectionAt, endAt, isCut, payloadAt, headerAt, readAt}
 use Rattle.framing.specs.Read.{Read}
-use Rattle.framing.proofs.Tests.{by-test}
 
 -- the octets of a least payload
 octetsOf : LeastOf → ℕ

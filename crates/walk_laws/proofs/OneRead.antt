@@ -14,7 +14,7 @@ use Rattle.sections.specs.declared.kinds.LeastOf.{LeastOf}
 use Rattle.sections.specs.declared.kinds.LeastOf.the-variants.{Octets, NoHeader}
 use Rattle.sections.specs.declared.kinds.MaybeKind.{MaybeKind}
 use Rattle.framing.specs.Search.{says, IsNextStart, nextStart}
-use Rattle.framing.specs.LaidOut.{HasGrib, FirstGrib, sectionOf, statedLength, statedNumber}
+use Rattle.framing.specs.LaidOut.{FirstGrib, sectionOf, statedLength, statedNumber}
 use Rattle.framing.specs.Framing.{refusedAt, indicatorAt, endAt, isCut, payloadAt, headerAt, messageAt, readAt}
 use Rattle.framing.specs.declared.search.Found.{Found}
 use Rattle.framing.specs.declared.search.Found.the-variants.{At, Nowhere}
@@ -28,26 +28,7 @@ use Rattle.framing.proofs.LaidOut.{spells, says-so, first-grib}
 use Rattle.framing.proofs.OneLayout.{one-grib}
 use Rattle.index.specs.Numbers.{faultNumber, faultDetail}
 use Rattle.walk_laws.specs.Rows.{Rows, FirstRow}
-use Rattle.walk_laws.specs.ExactlyWhen.{
-  left,
-  edition,
-  total,
-  rows0,
-  NotSevens,
-  payload,
-  PayloadCut,
-  leastOctets,
-  rowsBehindHeader,
-  InHand,
-  hand0,
-  hand8,
-  behindHeader,
-  NoneInHand,
-  noStart,
-  noOctet,
-  CannotBeRead,
-  WellRead,
-}
+use Rattle.walk_laws.specs.ExactlyWhen.{left, edition, total, rows0, payload, PayloadCut, leastOctets, rowsBehindHeader, InHand, hand0, hand8, behindHeader, NoneInHand, noStart, noOctet, CannotBeRead, WellRead}
 use Rattle.walk_laws.proofs.Rows.{first-same, first-holds}
 
 -- what holds of any offset and rows holds of the section in hand

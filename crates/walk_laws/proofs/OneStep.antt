@@ -1,5 +1,5 @@
 -- One read, one judgement and a bare list of numbers, in numbers.
-use Prim.Native.Nat.{ℕ, zero, suc, _+_, _-_, _≤_}
+use Prim.Native.Nat.{ℕ, _+_, _-_}
 use native.Mathlib.Omega.{arith}
 use mathlib.Core.Path.{_≡_, refl, sym, ap, subst, _∙_}
 use mathlib.Core.Bool.{Bool, true, false}
@@ -10,8 +10,7 @@ use lib.Seq.{getD-append-add}
 use native.Mathlib.Nat.{add-zero}
 use Rattle.octets.specs.Words.{pick, Not, Iff}
 use Rattle.framing.specs.LaidOut.{sectionOf}
-use Rattle.framing.specs.Framing.{readAt, refusedAt}
-use Rattle.framing.specs.declared.read.Section.{Section}
+use Rattle.framing.specs.Framing.{readAt}
 use Rattle.framing.specs.Read.{Read}
 use Rattle.framing.specs.Read as read
 use Rattle.order.specs.Order.{judged, isBetween, thenJudged, orderFrom, orderOf}
@@ -23,31 +22,7 @@ use Rattle.order.specs.declared.Verdict.{Verdict}
 use Rattle.order.specs.declared.Verdict.the-variants as verdict
 use Rattle.index.specs.Numbers.{faultNumber, faultDetail}
 use Rattle.walk_laws.specs.ExactlyWhen.{CannotBeRead, WellRead, NoneInHand, CanCome, NoGridYet, ClosesMessage, orderAfter}
-use Rattle.walk_laws.specs.OneStep.{
-  ReadNumbers,
-  aSection,
-  noInput,
-  refusedBy,
-  readNumbers,
-  fitsBefore,
-  closesIt,
-  misfits,
-  judgedNumbers,
-  JudgedByRows,
-  OrderEnd,
-  orderEnd,
-  orderEndOf,
-  ComeInOrder,
-  noNumber,
-  oneMore,
-  OrderGiven,
-  inOrder,
-  overInside,
-  misplacedThere,
-  noGridThere,
-  ReadByRows,
-  OneStepExactlyWhen,
-}
+use Rattle.walk_laws.specs.OneStep.{aSection, noInput, refusedBy, readNumbers, fitsBefore, judgedNumbers, JudgedByRows, OrderEnd, orderEnd, orderEndOf, ComeInOrder, noNumber, oneMore, OrderGiven, inOrder, overInside, misplacedThere, noGridThere, ReadByRows, OneStepExactlyWhen}
 use Rattle.walk_laws.proofs.OneRead.{Tells, refuses, reads, over, tells, refused-there, section-there, none-read}
 use Rattle.walk_laws.proofs.OneSection.{Stands, fits, closes, misplaced, noGrid, stands}
 use Rattle.walk_laws.proofs.WholeWalk.{Said, said, not-between}

@@ -56,8 +56,8 @@ use Rattle.walk_laws.specs.ExactlyWhen.{
   WalkCleanExactlyWhen,
 }
 use Rattle.walk_laws.proofs.OneRead.{Tells, refuses, reads, over, tells, refused-there, section-there, none-read}
-use Rattle.walk_laws.proofs.OneSection.{standOf, Judges, halts, goes as passes-on, judges, stopped-there, apart}
-use Rattle.walk_laws.proofs.WalksTo.{WalksTo, fromStart, stepOn, walks-to-comes, ReachedAt, comes-walks-to, last-there, read-so}
+use Rattle.walk_laws.proofs.OneSection.{Judges, halts, goes as passes-on, judges, stopped-there, apart}
+use Rattle.walk_laws.proofs.WalksTo.{WalksTo, fromStart, stepOn, walks-to-comes, comes-walks-to, last-there, read-so}
 
 -- the walk from a place and a rest on
 unfoldable pub on : Room → List ℕ → ℕ → ℕ → Reached → Told

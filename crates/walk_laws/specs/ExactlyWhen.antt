@@ -9,7 +9,6 @@ use mathlib.Core.Logic.{_⊎_}
 use lib.ListN.{length, getD}
 use Rattle.octets.specs.Words.{Not, Iff}
 use Rattle.octets.specs.BigEndian.{beAt}
-use Rattle.framing.specs.Search.{IsNextStart}
 use Rattle.framing.specs.LaidOut.{sectionOf}
 use Rattle.framing.specs.LaidOut.{
   Spells,
@@ -141,8 +140,8 @@ pub data InHand (file : List ℕ) (at rest : ℕ) (So : Section → ℕ → Rows
   hand8 : rest ≡ 4 → at < length file → So (sectionOf 8 at 4) 0 (rows8 file at)
       → InHand file at rest So
   behindHeader : Not (rest ≡ 0) → Not (rest ≡ 4) → at < length file
-      → So (sectionOf (statedNumber file at) at (statedLength file at)) (rest - statedLength file at)
-      (rowsBehindHeader file at rest)
+      → So (sectionOf (statedNumber file at) at (statedLength file at))
+      (rest - statedLength file at) (rowsBehindHeader file at rest)
       → InHand file at rest So
 
 -- there is none, the input is over: no message starts, or no octet is left where a header or

@@ -38,7 +38,8 @@ unfoldable pub readNumbers : Read → ReadNumbers
 readNumbers (read.Section s next) =
     aSection (s .number) (s .offset .0) (s .length) (next .at .0) (next .rest)
 readNumbers read.Over = noInput
-readNumbers (read.Refused fault offset) = refusedBy (faultNumber fault) (offset .0) (faultDetail fault)
+readNumbers (read.Refused fault offset) =
+    refusedBy (faultNumber fault) (offset .0) (faultDetail fault)
 
 -- it is that of a place with so many octets of the message to come, by the rows
 pub record ReadByRows (file : List ℕ) (at rest : ℕ) (as-read : ReadNumbers) : Type 0 where

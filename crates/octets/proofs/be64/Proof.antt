@@ -1,6 +1,5 @@
 -- `octets::be64` meets its contract: it is the number of 8 octets.
 use mathlib.Core.Path.{ap, _∙_}
-use native.Mathlib.Omega.{arith}
 use borrow.Author.Needs.{needs}
 use Rattle.octets.specs.BigEndian.{beAt}
 use Rattle.octets.proofs.be64.Statement.{statement}

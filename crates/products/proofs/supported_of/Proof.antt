@@ -1,5 +1,4 @@
 -- `supported_of` meets its contract, test by test.
-use mathlib.Core.Path.{_≡_, sym, _∙_}
 use borrow.Author.Tests.{lt-ltb, le-ltb}
 use Rattle.octets.specs.BigEndian.{beAt}
 use Rattle.products.specs.Products.{supportedOf}

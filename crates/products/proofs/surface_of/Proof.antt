@@ -1,7 +1,7 @@
 -- `surface_of` meets its contract, by the cases of its two numbers.
 use mir.Facts.{toZ-ofZ}
 use mir.Syntax.{w32}
-use mathlib.Core.Path.{_≡_, sym, _∙_}
+use mathlib.Core.Path.{sym, _∙_}
 use borrow.Author.Tests.{lt-ltb, le-ltb}
 use Rattle.products.specs.Products.{surfaceOf}
 use borrow.Author.Needs.{needs, sfits-of}

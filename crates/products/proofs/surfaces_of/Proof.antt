@@ -1,6 +1,6 @@
 -- `surfaces_of` meets its contract, by the cases of its two surfaces.
-use mathlib.Core.Path.{_≡_, sym, _∙_}
-use Rattle.products.specs.Products.{surfaceOf, surfacesOf}
+use mathlib.Core.Path.{sym, _∙_}
+use Rattle.products.specs.Products.{surfacesOf}
 use borrow.Author.Needs.{needs}
 use Rattle.products.proofs.surfaces_of.Statement.{statement}
 use Rattle.products.proofs.surfaces_of.Tie as tie

@@ -1,5 +1,5 @@
 -- `least_payload_of` meets its contract, by the cases of the kind and of its size.
-use mathlib.Core.Path.{_≡_, sym, _∙_}
+use mathlib.Core.Path.{sym, _∙_}
 use Rattle.sections.specs.Kinds.{leastPayloadOf}
 use borrow.Author.Needs.{needs}
 use Rattle.sections.proofs.kinds.least_payload_of.Statement.{statement}

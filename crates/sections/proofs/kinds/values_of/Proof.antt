@@ -1,5 +1,5 @@
 -- `values_of` meets its contract, by the cases of the kind.
-use mathlib.Core.Path.{_≡_, sym, _∙_}
+use mathlib.Core.Path.{sym, _∙_}
 use Rattle.sections.specs.Kinds.{valuesOf}
 use borrow.Author.Needs.{needs}
 use Rattle.sections.proofs.kinds.values_of.Statement.{statement}

@@ -1,6 +1,5 @@
 -- `put_line` meets its contract: the line's numbers are stored.
 use mathlib.Core.Path.{_∙_}
-use native.Mathlib.Omega.{arith}
 use borrow.Author.Needs.{needs}
 use Rattle.walk.proofs.twelve.put_line.Statement.{statement}
 use Rattle.walk.proofs.twelve.put_line.Tie as tie
