@@ -9,7 +9,6 @@ use mathlib.Core.Logic.{_⊎_}
 use lib.ListN.{length, getD}
 use Rattle.octets.specs.Words.{Not, Iff}
 use Rattle.octets.specs.BigEndian.{beAt}
-use Rattle.framing.specs.LaidOut.{sectionOf}
 use Rattle.framing.specs.LaidOut.{
   Spells,
   HasGrib,
