@@ -11,7 +11,7 @@ use Rattle.order.specs.declared.Order.{Order}
 use Rattle.order.specs.declared.Order.the-variants.{AfterIndicator}
 use Rattle.order.specs.declared.Judged.the-variants.{Fits, Closes, Misplaced, NoGrid}
 use Rattle.index.specs.Bounds.{mostOctets}
-use Rattle.writer.specs.Plan.{Part, mostSections, mostPayload, totalOf}
+use Rattle.writer.specs.Plan.{Part, mostPayload, totalOf}
 
 -- the section at a place of a plan
 abbrev pub partAt : List Part → ℕ → Part
@@ -82,24 +82,3 @@ WrongSize part = UnderItsLeast part ⊎ (mostPayload < part .length)
 -- 19: the destination is shorter than the message, or the message over 2^40 octets
 abbrev pub TooLarge : List Part → ℕ → Type 0
 TooLarge parts room = (room < totalOf parts) ⊎ (mostOctets < totalOf parts)
-
--- number and detail of a plan's refusal, with a store and a destination of so many octets: 15, 16,
--- 17, 18, 19, each over the whole plan before the next
-pub data PlanGiven (parts : List Part) (store room : ℕ) : ℕ → ℕ → Type 0 where
-  tooMany : mostSections < length parts → PlanGiven parts store room 15 0
-  notOneMessage : {at : ℕ} → length parts ≤ mostSections → FirstMisfit parts at
-      → PlanGiven parts store room 16 at
-  outsideStore : {at : ℕ} → length parts ≤ mostSections → OneMessage parts
-      → FirstAt (Outside store) parts at → PlanGiven parts store room 17 at
-  wrongSize : {at : ℕ} → length parts ≤ mostSections → OneMessage parts
-      → AtNone (Outside store) parts → FirstAt WrongSize parts at → PlanGiven parts store room 18 at
-  noRoom : length parts ≤ mostSections → OneMessage parts → AtNone (Outside store) parts
-      → AtNone WrongSize parts → TooLarge parts room → PlanGiven parts store room 19 0
-
--- a plan that is written: none of these is given
-pub record PlanTaken (parts : List Part) (store room : ℕ) : Type 0 where
-  pub few : length parts ≤ mostSections
-  pub one-message : OneMessage parts
-  pub inside-store : AtNone (Outside store) parts
-  pub sound-sizes : AtNone WrongSize parts
-  pub not-too-large : TooLarge parts room → ⊥
