@@ -8,6 +8,3 @@ pub mod Parser
 pub mod Told
 pub mod Equal
 pub mod Overflow
--- `Encoder`: the crate's writer, function by function. `Writes`: that ours writes the same.
-pub mod Encoder
-pub mod Writes

@@ -14,8 +14,8 @@ use Rattle.walk_laws.proofs.Unlimited.{begins-the-unlimited, held-is-unlimited}
 use Rattle.walk_laws.proofs.Places.{place-is-count, input-over-at-last}
 use Rattle.as_the_crate.proofs.Equal.{walk-equals-the-rust, walk-numbers-equals-the-rust, pull-equals-the-rust}
 use Rattle.as_the_crate.proofs.Overflow.{overflows-exactly-when}
-use Rattle.as_the_crate.proofs.Encoding.{writes-as-the-rust}
-use Rattle.as_the_crate.proofs.EncodingNested.{every-accepted-plan-is-nested}
+use Rattle.as_the_encoder.proofs.Encoding.{writes-as-the-rust}
+use Rattle.as_the_encoder.proofs.EncodingNested.{every-accepted-plan-is-nested}
 use Rattle.blindness.proofs.Theorems.{blindness, lent-blindness, public-copies}
 use Rattle.blindness.proofs.Spared.{licensed-are-four, terms-pass, one-more-fails}
 use Rattle.promises.specs.Promises.{Demand1, Demand2, Demand3}

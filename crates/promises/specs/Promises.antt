@@ -19,7 +19,7 @@ use Rattle.walk_laws.specs.Witnesses as witnesses
 use Rattle.walk_laws.specs.Laws as laws
 use Rattle.as_the_crate.specs.Equal as rust
 use Rattle.as_the_crate.specs.Overflow.{OverflowsExactlyWhen}
-use Rattle.as_the_crate.specs.Writes.{WritesAsTheRust, EveryAcceptedPlanIsNested}
+use Rattle.as_the_encoder.specs.Writes.{WritesAsTheRust, EveryAcceptedPlanIsNested}
 use Rattle.blindness.specs.Agree.{Alike}
 use Rattle.blindness.specs.Blindness.{One, Public}
 use Rattle.promises.specs.Public.{EachGivesItsDefinition}

@@ -16,7 +16,7 @@ use Rattle.writer.specs.declared.Written.{Written}
 use Rattle.writer.specs.declared.Written.the-variants.{Whole, NotOneMessage, PayloadSize, NoRoom}
 use Rattle.round_trip.specs.ReadBack.{partOf}
 use Rattle.round_trip.specs.Faults.{AtNone, OneMessage, Outside}
-use Rattle.as_the_crate.specs.Encoder.{
+use Rattle.as_the_encoder.specs.Encoder.{
   Ok,
   TooSmall,
   usize,

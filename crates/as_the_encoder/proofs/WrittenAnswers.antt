@@ -4,7 +4,7 @@ use mathlib.Core.Path.{_≡_, refl}
 use mathlib.Core.List.{List, [], _∷_, map}
 use mathlib.Core.Option.{Option, none, some}
 use lib.ListN.{replicate}
-use Rattle.as_the_crate.specs.Encoder.{
+use Rattle.as_the_encoder.specs.Encoder.{
   Usize,
   size,
   WriteResult,

@@ -28,8 +28,8 @@ use Rattle.order.specs.declared.Order.the-variants.{
 use Rattle.order.specs.declared.Judged.the-variants.{Fits, Closes, Misplaced, NoGrid}
 use Rattle.writer.specs.Plan.{Part, partsOf}
 use Rattle.round_trip.specs.Faults.{Reaches, arrived, on, AtNone, Outside}
-use Rattle.as_the_crate.specs.Encoder.{IterL3, IterL2, IterL1}
-use Rattle.as_the_crate.specs.Writes.{
+use Rattle.as_the_encoder.specs.Encoder.{IterL3, IterL2, IterL1}
+use Rattle.as_the_encoder.specs.Writes.{
   flattenedL3,
   flattenedL2,
   flattenedL1,

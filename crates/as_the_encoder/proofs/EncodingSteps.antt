@@ -10,7 +10,7 @@ use lib.Seq.{take-at, drop-at, drop-drop}
 use borrow.Author.Tests.{ltb-false, lt-ltb, le-ltb, eq-eqb}
 use Rattle.octets.specs.Words.{pick}
 use Rattle.writer.specs.Message.{digits}
-use Rattle.as_the_crate.specs.Encoder.{size, tooLarge, usize, _⊞_, WriteResult, Ok, _then_, copy-from-slice, each, write-to-buffer, to-be-bytes}
+use Rattle.as_the_encoder.specs.Encoder.{size, tooLarge, usize, _⊞_, WriteResult, Ok, _then_, copy-from-slice, each, write-to-buffer, to-be-bytes}
 
 -- the numbers of a usize
 abbrev pub usizes : ℕ

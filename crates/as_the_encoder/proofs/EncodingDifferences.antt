@@ -4,7 +4,7 @@ use mathlib.Core.List.{flatMap}
 use Rattle.sections.specs.Kinds.{leastPayloadOf, kindOf, kinds}
 use Rattle.order.specs.Order.{judged}
 use Rattle.writer.specs.Plan.{partsOf, misfitFrom, firstAt, isOutside, isWrongSize, judgedPlan}
-use Rattle.as_the_crate.specs.Encoder.{
+use Rattle.as_the_encoder.specs.Encoder.{
   write-to-buffer,
   SectionHeader·write-to-buffer,
   Section0·write-to-buffer,
@@ -24,7 +24,7 @@ use Rattle.as_the_crate.specs.Encoder.{
   Grib2Message·num-octets,
   Grib2Message·write,
 }
-use Rattle.as_the_crate.specs.Writes.{flattenedL3, flattenedL2, flattenedL1, flattened, FramesWhat01Refuses}
+use Rattle.as_the_encoder.specs.Writes.{flattenedL3, flattenedL2, flattenedL1, flattened, FramesWhat01Refuses}
 
 pub frames-what-01-refuses : FramesWhat01Refuses
 unfolding flattened flattenedL1 flattenedL2 flattenedL3 flatMap partsOf judgedPlan misfitFrom firstAt isOutside isWrongSize judged

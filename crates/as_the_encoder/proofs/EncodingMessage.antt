@@ -11,7 +11,7 @@ use Rattle.octets.specs.Words.{pick}
 use Rattle.sections.specs.Kinds.{endMark}
 use Rattle.writer.specs.Message.{digits, indicatorOctets}
 use Rattle.writer.proofs.Lengths.{length-indicator}
-use Rattle.as_the_crate.specs.Encoder.{
+use Rattle.as_the_encoder.specs.Encoder.{
   Usize,
   size,
   tooLarge,
@@ -34,9 +34,9 @@ use Rattle.as_the_crate.specs.Encoder.{
   Grib2Message·num-octets,
   Grib2Message·write,
 }
-use Rattle.as_the_crate.specs.Writes.{flattenedL1, flattened}
-use Rattle.as_the_crate.proofs.EncodingSteps.{usizes, add-usize, enough, Frames, then-frames, each-frames, to-buffer-frames, then-field, bytes-8}
-use Rattle.as_the_crate.proofs.EncodingLevels.{frame, framed, framed-each, length-frame, count-sum, counts-1, section-frames, writes-1}
+use Rattle.as_the_encoder.specs.Writes.{flattenedL1, flattened}
+use Rattle.as_the_encoder.proofs.EncodingSteps.{usizes, add-usize, enough, Frames, then-frames, each-frames, to-buffer-frames, then-field, bytes-8}
+use Rattle.as_the_encoder.proofs.EncodingLevels.{frame, framed, framed-each, length-frame, count-sum, counts-1, section-frames, writes-1}
 
 -- section 0
 abbrev section0 : ℕ → ℕ → ℕ → ℕ → Section0

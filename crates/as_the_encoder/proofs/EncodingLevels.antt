@@ -8,7 +8,7 @@ use lib.ListN.{length, length-append}
 use borrow.Author.Tests.{lt-ltb, le-ltb}
 use Rattle.writer.specs.Message.{digits}
 use Rattle.writer.proofs.Stored.{length-digits}
-use Rattle.as_the_crate.specs.Encoder.{
+use Rattle.as_the_encoder.specs.Encoder.{
   Usize,
   usize,
   _⊞_,
@@ -38,8 +38,8 @@ use Rattle.as_the_crate.specs.Encoder.{
   IterL1·num-octets,
   IterL1·write,
 }
-use Rattle.as_the_crate.specs.Writes.{flattenedL3, flattenedL2, ifSome, flattenedL1}
-use Rattle.as_the_crate.proofs.EncodingSteps.{usizes, add-usize, wrote, Frames, then-frames, each-frames, copy-frames, then-field, bytes-4}
+use Rattle.as_the_encoder.specs.Writes.{flattenedL3, flattenedL2, ifSome, flattenedL1}
+use Rattle.as_the_encoder.proofs.EncodingSteps.{usizes, add-usize, wrote, Frames, then-frames, each-frames, copy-frames, then-field, bytes-4}
 
 -- a section framed: its length in four octets, its number, its payload
 abbrev pub frame : ℕ × List ℕ → List ℕ

@@ -16,11 +16,11 @@ use Rattle.writer.specs.Write.{destOf, writeOf}
 use Rattle.round_trip.specs.ReadBack.{partOf}
 use Rattle.round_trip.specs.Faults.{AtNone, Outside}
 use Rattle.round_trip.proofs.Exactly.{exactly-whole, exactly-19}
-use Rattle.as_the_crate.specs.Encoder.{reference}
-use Rattle.as_the_crate.specs.Writes.{flattened, named, WritesAsTheRust, TooSmallAsTheRust, FramesWhateverIsNested, ReferenceLosesReserved}
-use Rattle.as_the_crate.proofs.EncodingSteps.{usizes}
-use Rattle.as_the_crate.proofs.EncodingLevels.{frame, framed, length-frame}
-use Rattle.as_the_crate.proofs.EncodingMessage.{message-writes}
+use Rattle.as_the_encoder.specs.Encoder.{reference}
+use Rattle.as_the_encoder.specs.Writes.{flattened, named, WritesAsTheRust, TooSmallAsTheRust, FramesWhateverIsNested, ReferenceLosesReserved}
+use Rattle.as_the_encoder.proofs.EncodingSteps.{usizes}
+use Rattle.as_the_encoder.proofs.EncodingLevels.{frame, framed, length-frame}
+use Rattle.as_the_encoder.proofs.EncodingMessage.{message-writes}
 
 -- what is not outside is inside
 inside : (store : ℕ) (part : Part) → (Outside store part → ⊥) → part .offset + part .length ≤ store
