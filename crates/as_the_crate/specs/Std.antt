@@ -34,7 +34,7 @@ pub data Result (A : Type 0) : Type 0 where
   overflows : Result A
   never : Result A
 
--- an error of a function that knows of no section
+-- an error of a function that knows of no section: the zeros say nothing until `begun`
 abbrev pub err : {A : Type 0} → ParseError → Result A
 err e = errs e (record { began = 0; number = 0 })
 

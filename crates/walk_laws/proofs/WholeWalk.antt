@@ -31,15 +31,15 @@ use Rattle.order.specs.declared.Order.the-variants.{
   SubmessageStart,
 }
 use Rattle.index.specs.Lines.{place}
-use Rattle.index.specs.Numbers.{faultNumber, refusalNumber, refusalDetail, endOf}
+use Rattle.index.specs.Numbers.{refusalNumber, refusalDetail, endOf}
 use Rattle.index.specs.declared.numbers.End.{End}
 use Rattle.index.specs.declared.refusal.Refusal.{Refusal}
 use Rattle.index.specs.declared.refusal.Refusal.the-variants as refusal
-use Rattle.framing.specs.declared.read.Fault.the-variants as fault
 use Rattle.index.specs.declared.refusal.Outcome.{Outcome}
 use Rattle.index.specs.declared.refusal.Outcome.the-variants as outcome
 use Rattle.index.specs.declared.bounds.Room.{Room}
 use Rattle.index.specs.Walk.{Reached, atStart, Judgement, judgement, Told, ends, concluded, followed, walkedFrom, walked}
+use Rattle.index.proofs.Rows.{fault-number}
 use Rattle.walk_laws.specs.Rows.{FirstRow}
 use Rattle.walk_laws.specs.ExactlyWhen.{
   rowsAfterRead,
@@ -171,16 +171,9 @@ module _ (room : Room) (file : List ℕ) (short : length file ≤ 1099511627776)
 
 -- refusals are numbered from 1 on
 pub from-1 : (why : Refusal) → 1 ≤ refusalNumber why
-unfolding refusalNumber faultNumber
+unfolding refusalNumber
 from-1 refusal.FileTooLong = omega arith
-from-1 (refusal.Unreadable fault.Cut) = omega arith
-from-1 (refusal.Unreadable (fault.OtherEdition edition)) = omega arith
-from-1 (refusal.Unreadable fault.TotalUnder16) = omega arith
-from-1 (refusal.Unreadable fault.NotEndMark) = omega arith
-from-1 (refusal.Unreadable (fault.LengthUnder5 len)) = omega arith
-from-1 (refusal.Unreadable (fault.UnknownNumber number)) = omega arith
-from-1 (refusal.Unreadable (fault.PayloadUnderLeast size)) = omega arith
-from-1 (refusal.Unreadable (fault.LongerThanRest len)) = omega arith
+from-1 (refusal.Unreadable fault) = let from-2 = fault-number fault .0 in omega arith
 from-1 refusal.InputOver = omega arith
 from-1 (refusal.Misplaced number) = omega arith
 from-1 (refusal.NoGrid number) = omega arith

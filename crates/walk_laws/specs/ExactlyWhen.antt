@@ -241,7 +241,7 @@ linesBehind AfterRepresentation lines = lines
 linesBehind AfterBitMap lines = lines
 linesBehind SubmessageStart lines = lines
 
--- before the first read
+-- before the first read; nothing asks for `last` until a section is passed
 abbrev pub fileStart : Stand
 fileStart =
     record { at = 0; rest = 0; sections = 0; lines = 0; order = BetweenMessages; last = 0 }
