@@ -3,6 +3,8 @@
  *
  *     PROGRAM FILE TIMES walk      the walk, with tables that hold all
  *     PROGRAM FILE TIMES copy      the public copy
+ *     PROGRAM FILE TIMES inventory the inventory, in as many octets as the file has
+ *     PROGRAM FILE TIMES list      the file is a list: its entries, in a table that holds all
  *     PROGRAM FILE TIMES memset    as many octets as the file has, set to zero
  *     PROGRAM FILE TIMES memcpy    as many octets as the file has, copied
  *
@@ -111,6 +113,10 @@ static void once(const struct lent *lent)
         job.outcome = job.walked.outcome;
     } else if (strcmp(job.what, "copy") == 0) {
         job.outcome = copy_file(lent->file, lent->octets, lent->dest, lent->tables);
+    } else if (strcmp(job.what, "inventory") == 0) {
+        job.outcome = list_file(lent->file, lent->octets, lent->dest, lent->tables);
+    } else if (strcmp(job.what, "list") == 0) {
+        job.outcome = read_text(lent->file, lent->octets, lent->tables);
     } else if (strcmp(job.what, "memset") == 0) {
         memset(lent->dest, 0, lent->octets);
     } else {
@@ -168,13 +174,14 @@ static void print_results(void)
     printf("rows %016llx\n", sum_of(lent->tables.rows, w->sections * ROW * sizeof(uint64_t)));
     printf("lines %016llx\n", sum_of(lent->tables.lines, w->submessages * LINE * sizeof(uint64_t)));
     printf("dest %016llx\n", sum_of(lent->dest, lent->octets));
+    printf("entries %016llx\n", strcmp(job.what, "list") == 0 ? sum_of(lent->tables.lines, lent->tables.line_numbers * sizeof(uint64_t)) : 0);
 }
 
 int main(int words, char **word)
 {
     int measured = words == 5 && strcmp(word[4], "memory") == 0;
     if (words != 4 && !measured) {
-        fprintf(stderr, "usage: %s FILE TIMES walk|copy|memset|memcpy [memory]\n", word[0]);
+        fprintf(stderr, "usage: %s FILE TIMES walk|copy|inventory|list|memset|memcpy [memory]\n", word[0]);
         return 2;
     }
     read_file(&job.lent, word[1]);

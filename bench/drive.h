@@ -5,7 +5,7 @@
 #include <stddef.h>
 #include <stdint.h>
 
-enum { ROW = 3, LINE = 12 };
+enum { ROW = 3, LINE = 12, ENTRY = 13 };
 
 /* Memory that is lent to a walk. */
 struct tables {
@@ -26,5 +26,11 @@ struct walked walk_file(const uint8_t *file, size_t octets, struct tables tables
 
 /* The public copy, into as many octets as the file has; its outcome. */
 uint64_t copy_file(const uint8_t *file, size_t octets, uint8_t *dest, struct tables tables);
+
+/* The inventory, into as many octets as the file has; its outcome. */
+uint64_t list_file(const uint8_t *file, size_t octets, uint8_t *text, struct tables tables);
+
+/* The entries of a list, in the table of lines; its outcome. */
+uint64_t read_text(const uint8_t *text, size_t octets, struct tables tables);
 
 #endif

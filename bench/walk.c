@@ -1,4 +1,4 @@
-/* Buttresk's walk and public copy, by include/buttresk.h. */
+/* Buttresk's walk, public copy, inventory and reader of a list, by include/buttresk.h. */
 #include "buttresk.h"
 #include "drive.h"
 
@@ -12,4 +12,15 @@ uint64_t copy_file(const uint8_t *file, size_t octets, uint8_t *dest, struct tab
 {
     (void)t;
     return buttresk_publish(file, octets, dest, octets).outcome;
+}
+
+uint64_t list_file(const uint8_t *file, size_t octets, uint8_t *text, struct tables t)
+{
+    (void)t;
+    return buttresk_inventory(file, octets, text, octets).outcome;
+}
+
+uint64_t read_text(const uint8_t *text, size_t octets, struct tables t)
+{
+    return buttresk_read_list(text, octets, t.lines, t.line_numbers).outcome;
 }

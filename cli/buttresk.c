@@ -14,6 +14,8 @@
 
 static const char usage[] = "usage: buttresk index FILE..\n"
                             "       buttresk fields [--json] FILE..\n"
+                            "       buttresk inventory FILE..\n"
+                            "       buttresk read-list [--json] LIST..\n"
                             "       buttresk copy [--force] FILE DEST\n"
                             "       buttresk --help | --version\n";
 
@@ -21,13 +23,15 @@ static const char help[] =
     "\n"
     "Reads GRIB edition 2 files by a library whose every answer is proved.\n"
     "\n"
-    "  index   the sections' places of every submessage, and how the file ends\n"
-    "  fields  a line for every submessage, with its decoded fields; --json: an object\n"
-    "  copy    the public copy: the file, with every octet of its values set to zero.\n"
-    "          DEST appears whole or not at all; --force replaces an existing one\n"
+    "  index      the sections' places of every submessage, and how the file ends\n"
+    "  fields     a line for every submessage, with its decoded fields; --json: an object\n"
+    "  inventory  a short line for every submessage of a clean file, to be sent back corrected\n"
+    "  read-list  the entries of such a list, which need not be any file's; --json: as objects\n"
+    "  copy       the public copy: the file, with every octet of its values set to zero.\n"
+    "             DEST appears whole or not at all; --force replaces an existing one\n"
     "\n"
-    "Names that begin with - stand behind --. Exit status: 0 clean; 1 a file is refused,\n"
-    "which standard error tells; 2 wrong usage, or an error of the system.\n";
+    "Names that begin with - stand behind --. Exit status: 0 clean; 1 a file or a\n"
+    "list is refused, which standard error tells; 2 wrong usage, or an error of the system.\n";
 
 struct request {
     bool help, version, json, force;
@@ -42,6 +46,13 @@ static enum status wrong_usage(const char *reason, const char *word)
     put_name(stderr, word);
     fprintf(stderr, "\n%s", usage);
     return FAILED;
+}
+
+void print_file_line(const char *name)
+{
+    fputs("file ", stdout);
+    put_name(stdout, name);
+    putchar('\n');
 }
 
 bool output_taken(void)
@@ -107,33 +118,61 @@ static enum status highest(enum status a, enum status b)
     return a > b ? a : b;
 }
 
+enum verb { INDEX, FIELDS, INVENTORY, READ_LIST, COPY, UNKNOWN };
+
+static enum verb verb_of(const char *word)
+{
+    static const char *const verbs[] = {
+        [INDEX] = "index", [FIELDS] = "fields", [INVENTORY] = "inventory", [READ_LIST] = "read-list", [COPY] = "copy"};
+    enum verb verb = INDEX;
+    while (verb != UNKNOWN && strcmp(verbs[verb], word) != 0) {
+        verb++;
+    }
+    return verb;
+}
+
+static enum status do_with_file(enum verb verb, const char *name, bool head, bool json)
+{
+    switch (verb) {
+    case FIELDS:
+        return fields_of_file(name, head, json);
+    case INVENTORY:
+        return inventory_of_file(name, head);
+    case READ_LIST:
+        return read_list(name, head, json);
+    default:
+        return index_file(name, head);
+    }
+}
+
 /* One file after another, whatever becomes of each, until nobody takes the output. */
-static enum status for_each_file(const struct request *r, bool fields)
+static enum status for_each_file(const struct request *r, enum verb verb)
 {
     enum status status = CLEAN;
     bool head = r->count > 1;
     for (int i = 0; i < r->count && !ferror(stdout); i++) {
-        const char *name = r->names[i];
-        status = highest(status, fields ? fields_of_file(name, head, r->json) : index_file(name, head));
+        status = highest(status, do_with_file(verb, r->names[i], head, r->json));
     }
     return status;
 }
 
 static enum status dispatch(const struct request *r)
 {
-    bool index = strcmp(r->verb, "index") == 0, fields = strcmp(r->verb, "fields") == 0;
-    bool copy = strcmp(r->verb, "copy") == 0;
-    if (!index && !fields && !copy) {
+    enum verb verb = verb_of(r->verb);
+    if (verb == UNKNOWN) {
         return wrong_usage("unknown command ", r->verb);
     }
-    if ((r->json && !fields) || (r->force && !copy)) {
-        return wrong_usage(r->json && !fields ? "--json is for fields, not for " : "--force is for copy, not for ", r->verb);
+    if (r->json && verb != FIELDS && verb != READ_LIST) {
+        return wrong_usage("--json is for fields and read-list, not for ", r->verb);
     }
-    if (copy) {
+    if (r->force && verb != COPY) {
+        return wrong_usage("--force is for copy, not for ", r->verb);
+    }
+    if (verb == COPY) {
         return r->count == 2 ? copy_file(r->names[0], r->names[1], r->force)
                              : wrong_usage("a FILE and a DEST are wanted by ", r->verb);
     }
-    return r->count > 0 ? for_each_file(r, fields) : wrong_usage("a FILE is wanted by ", r->verb);
+    return r->count > 0 ? for_each_file(r, verb) : wrong_usage("a FILE is wanted by ", r->verb);
 }
 
 static enum status answer(const struct request *r)

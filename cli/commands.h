@@ -9,8 +9,13 @@
 /* `head`: the output says first whose it is. */
 enum status index_file(const char *name, bool head);
 enum status fields_of_file(const char *name, bool head, bool json);
+enum status inventory_of_file(const char *name, bool head);
+enum status read_list(const char *name, bool head, bool json);
 
 enum status copy_file(const char *name, const char *dest, bool force);
+
+/* The line that says whose output follows. */
+void print_file_line(const char *name);
 
 /* Whether standard output took all that was printed; says the reason if not. */
 bool output_taken(void);

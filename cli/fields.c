@@ -61,9 +61,7 @@ static void decode(void *with)
 static void print_head(const char *name, bool head)
 {
     if (head) {
-        fputs("file ", stdout);
-        put_name(stdout, name);
-        putchar('\n');
+        print_file_line(name);
     }
     print_table_head();
 }

@@ -34,9 +34,7 @@ static enum status print_walked(const struct source *source, const struct tables
 {
     const struct buttresk_walk_answer *a = &tables->answer;
     if (head) {
-        fputs("file ", stdout);
-        put_name(stdout, source->name);
-        putchar('\n');
+        print_file_line(source->name);
     }
     print_index(tables);
     if (!output_taken()) {

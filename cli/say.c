@@ -1,4 +1,4 @@
-/* What the command tells on standard error. The refusals are document 01's, in its order. */
+/* What the command tells on standard error. The refusals are those of documents 01 and 02, in their order. */
 #include "say.h"
 
 #include <errno.h>
@@ -31,9 +31,11 @@ static const struct refusal refusals[] = {
     {"outside the store", "a payload reaches beyond the store", "the place in the plan"},
     {"payload size", "a payload is under its section's least, or over 4,294,967,290", "the place in the plan"},
     {"no room", "the destination is shorter than what is to be written, or that is over 2^40 octets", NULL},
+    {"text too small", "the text of an inventory is longer than its buffer", NULL},
+    {"line not in form", "a line is not in the inventory's form, or no line feed closes it", "the line's number, from 1"},
 };
 
-static const struct refusal unknown = {"unknown", "a number that document 01 does not have", NULL};
+static const struct refusal unknown = {"unknown", "a number that documents 01 and 02 do not have", NULL};
 
 static const struct refusal *refusal_of(uint64_t outcome)
 {

@@ -3,13 +3,10 @@
 #include <assert.h>
 #include <stdlib.h>
 
-#include "guard.h"
-#include "say.h"
-#include "watch.h"
+#include "growing.h"
 
-/* Some 24 and 12 KiB. If one is full both are made twice as large and the file is walked again, so the walks that found no room cost
-   together less than twice what the last one does. A submessage has four sections of its own at least and nine at most, so neither table
-   is much larger than it need be. */
+/* Some 24 and 12 KiB. If one is full both are made twice as large. A submessage has four sections of its own at least and nine at most, so
+   neither table is much larger than it need be. */
 enum { FIRST_ROWS = 1024, FIRST_LINES = 128 };
 
 static_assert(sizeof(size_t) == 8, "a table's size in bytes has to fit: a file of 2^40 octets has under 2^38 sections");
@@ -27,7 +24,6 @@ static void walk(void *with)
                               t->line_room * BUTTRESK_LINE);
 }
 
-/* The old content is not needed: the walk stores it again. */
 static bool sized(uint64_t **table, size_t *room, size_t wanted, size_t numbers)
 {
     free(*table);
@@ -36,49 +32,25 @@ static bool sized(uint64_t **table, size_t *room, size_t wanted, size_t numbers)
     return *table != NULL;
 }
 
-static bool sized_both(struct tables *t, size_t rows, size_t lines)
+static bool lend_tables(void *with, size_t times)
 {
-    return sized(&t->rows, &t->row_room, rows, BUTTRESK_ROW) && sized(&t->lines, &t->line_room, lines, BUTTRESK_LINE);
+    struct tables *t = ((struct walking *)with)->tables;
+    return sized(&t->rows, &t->row_room, FIRST_ROWS * times, BUTTRESK_ROW) &&
+           sized(&t->lines, &t->line_room, FIRST_LINES * times, BUTTRESK_LINE);
 }
 
-static bool is_full(const struct tables *t)
+static bool tables_fit(const void *with)
 {
-    return t->answer.outcome == BUTTRESK_SECTION_TABLE_FULL || t->answer.outcome == BUTTRESK_SUBMESSAGE_TABLE_FULL;
-}
-
-enum ending { WALKED, NO_MEMORY, FAULT };
-
-static enum ending walk_until_it_fits(struct tables *t, const struct source *source)
-{
-    struct walking walking = {t, source};
-    const void *fault;
-    if (!sized_both(t, FIRST_ROWS, FIRST_LINES)) {
-        return NO_MEMORY;
-    }
-    while (guarded(walk, &walking, &fault)) {
-        if (!is_full(t)) {
-            return WALKED;
-        }
-        if (!sized_both(t, t->row_room * 2, t->line_room * 2)) {
-            return NO_MEMORY;
-        }
-    }
-    return FAULT;
+    uint64_t outcome = ((const struct walking *)with)->tables->answer.outcome;
+    return outcome != BUTTRESK_SECTION_TABLE_FULL && outcome != BUTTRESK_SUBMESSAGE_TABLE_FULL;
 }
 
 bool tables_walk(struct tables *tables, const struct source *source)
 {
-    struct watch watch;
+    static const struct growing growing = {"walking", "there is no memory for its tables", lend_tables, walk, tables_fit};
+    struct walking walking = {tables, source};
     *tables = (struct tables){0};
-    watch_start(&watch, source, "walking", false);
-    enum ending ending = walk_until_it_fits(tables, source);
-    watch_stop(&watch);
-    if (ending == FAULT) {
-        source_say_fault(source);
-    } else if (ending == NO_MEMORY) {
-        say_failed(source->name, "there is no memory for its tables");
-    }
-    return ending == WALKED && source_same(source);
+    return answered(&growing, &walking, source);
 }
 
 struct row tables_row(const struct tables *tables, uint64_t place)

@@ -9,7 +9,7 @@
  * of 64 bits; not bytes), and this must hold of it:
  *   - the pointer is not null and is aligned for its elements, also where the count is 0; as many elements as the count says are there,
  *     and are at most PTRDIFF_MAX bytes;
- *   - nothing else reads or writes memory that is lent to be written (`rows`, `lines`, `dest`), and it overlaps no other memory that is
+ *   - nothing else reads or writes memory that is lent to be written (`rows`, `lines`, `dest`, `text`, `entries`), and it overlaps no other memory that is
  *     lent to the same call;
  *   - memory that is lent to be read (`const`) does not change during the call: not by another thread, not by a signal handler, not
  *     through the file that it is mapped from.
@@ -33,7 +33,7 @@ extern "C" {
  * Outcomes. Each answer has an outcome and, for a refusal, a place, an offset and a detail; at outcome 0 these three are 0.
  *   place   counts the sections of the whole file from 0; offset counts its octets from 0;
  *   2 to 9  have the place and the offset that the section in hand would have, 10 those of the section read last, 11 to 14 those of
- *           the section just read; 1 and 15 to 19 have 0 and 0;
+ *           the section just read; 1 and 15 to 21 have 0 and 0, and so has 14 of a list, which is no file;
  *   detail  is as said below, else 0.
  * Of several that hold, the first that is checked is given: in a section 2 (header), 6, 7, 2 (payload), 8, 9; in a section 0: 3, 4; in
  * a section 8: 2, 5; after a good read 14 for a submessage that goes on, then 11 or 12, then 13, and for a section 8 that closes its
@@ -54,19 +54,22 @@ enum buttresk_outcome {
     BUTTRESK_MISPLACED = 11,            /* a section of this number can't come next; detail: the number */
     BUTTRESK_NO_GRID = 12,              /* a section 4 right after a section 1; detail: the number, 4 */
     BUTTRESK_SECTION_TABLE_FULL = 13,   /* a row is due, and the section table is full */
-    BUTTRESK_SUBMESSAGE_TABLE_FULL = 14,/* a line is due, and the submessage table is full */
+    BUTTRESK_SUBMESSAGE_TABLE_FULL = 14,/* a line is due, and the submessage table is full; of a list: an entry is due, and its table is full */
     BUTTRESK_TOO_MANY_SECTIONS = 15,    /* the plan has over 4,096 sections */
     BUTTRESK_NOT_ONE_MESSAGE = 16,      /* the plan's numbers, with 0 before and 8 after, are not one message; detail: the first place of the
                                            plan whose number is not 1 to 7 or can't come next, the plan's length if only the 8 misfits */
     BUTTRESK_OUTSIDE_STORE = 17,        /* a payload reaches beyond the store; detail: its place in the plan */
     BUTTRESK_PAYLOAD_SIZE = 18,         /* a payload is under its section's least, or over 4,294,967,290; detail: its place in the plan */
-    BUTTRESK_NO_ROOM = 19               /* the destination is shorter than what is to be written, or that is over 2^40 octets */
+    BUTTRESK_NO_ROOM = 19,              /* the destination is shorter than what is to be written, or that is over 2^40 octets */
+    BUTTRESK_TEXT_TOO_SMALL = 20,       /* the text of an inventory is longer than its buffer */
+    BUTTRESK_LINE_NOT_IN_FORM = 21      /* a line of a list is not in the inventory's form; detail: its number, from 1 */
 };
 
-/* Numbers of a row of the section table, of a line of the submessage table, and of a section of a plan. */
+/* Numbers of a row of the section table, of a line of the submessage table, of a section of a plan, and of an entry of a list. */
 #define BUTTRESK_ROW 3
 #define BUTTRESK_LINE 12
 #define BUTTRESK_PART 3
+#define BUTTRESK_ENTRY 13
 
 /* How many rows and lines stand in the tables, how many messages were closed, and how the walk ended. */
 struct buttresk_walk_answer {
@@ -95,7 +98,7 @@ struct buttresk_walk_answer {
 struct buttresk_walk_answer buttresk_walk(const uint8_t *file, size_t octets, uint64_t *rows, size_t row_numbers, uint64_t *lines,
                                           size_t line_numbers);
 
-/* How the public copy or the writer ended, and the octets that it wrote: 0 on a refusal. */
+/* How the public copy, the writer or the inventory ended, and the octets that it wrote: 0 on a refusal. */
 struct buttresk_store_answer {
     uint64_t outcome;
     uint64_t place;
@@ -127,6 +130,44 @@ struct buttresk_store_answer buttresk_publish(const uint8_t *file, size_t octets
  */
 struct buttresk_store_answer buttresk_write(uint8_t discipline, uint8_t reserved_1, uint8_t reserved_2, const uint64_t *plan,
                                             size_t plan_numbers, const uint8_t *store, size_t store_octets, uint8_t *dest, size_t room);
+
+/*
+ * The inventory of a file: a line of text for each submessage, in the order of the file, of nine fields with a colon between any two, closed
+ * by a line feed:
+ *     message and submessage (each from 0), octet offset of section 0, discipline, category, parameter number, time unit, time, type of the
+ *     first fixed surface
+ * Each is a decimal number without leading zeros; any of the last five is `none` where there is none, and time unit and time are both none or
+ * neither. The text has no 0 octet behind it.
+ *
+ * Reads `file`; writes `text`, as many octets from its start as the text has, and no other. On a refusal `text` is left as it was. The text
+ * of a file without a submessage has no octets, and always fits. No octet of it depends on a values octet.
+ *
+ * Refusals: those of a walk with room for every line, 1 to 12; then 20.
+ */
+struct buttresk_store_answer buttresk_inventory(const uint8_t *file, size_t octets, uint8_t *text, size_t room);
+
+/* How many entries stand in the table, and how the reading of a list ended. */
+struct buttresk_list_answer {
+    uint64_t entries;
+    uint64_t outcome;
+    uint64_t place;
+    uint64_t offset;
+    uint64_t detail;
+};
+
+/*
+ * Reads a list: a text in the form of an inventory, whether or not some file has these lines.
+ *
+ * Reads `text`; writes `entries`, as many numbers as `entry_numbers` says. An entry is 13 numbers: message, submessage, offset, discipline; 1
+ * or 0 for whether there is a category, and the category; the same for the parameter number; 1 or 0 for whether there is a time, its unit,
+ * and the time; 1 or 0 for whether there is a first surface type, and the type. A remainder under 13 is no room.
+ *
+ * Message, submessage and offset are at most 2^40, the time is at most 2^32 - 1, the others at most 255.
+ *
+ * Refusals, line by line: 21, also for a last line that no line feed closes; then 14. Entries that were stored before a refusal stand, and all
+ * room beyond their count is left as it was.
+ */
+struct buttresk_list_answer buttresk_read_list(const uint8_t *text, size_t octets, uint64_t *entries, size_t entry_numbers);
 
 /*
  * DECODED FIELDS. Each function below reads the octets of one section and writes nothing but its answer. There is no refusal: where there

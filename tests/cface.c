@@ -4,7 +4,7 @@
  *     rt staticlib buttresk
  *     cc -std=c11 -Wall -Wextra -Iinclude tests/cface.c target/staticlib/libbuttresk.a -o target/cface && target/cface
  *
- * What is expected is written by hand from document 01. It prints each check that fails, and the count.
+ * What is expected is written by hand from documents 01 and 02. It prints each check that fails, and the count.
  */
 #include <stdio.h>
 #include <string.h>
@@ -194,6 +194,50 @@ static void writes(void)
     EXPECT(w.outcome == BUTTRESK_OUTSIDE_STORE && w.detail == 2 && w.place == 0 && w.offset == 0 && w.written == 0 && dest[0] == 77);
 }
 
+/* 99 stands where nothing is written. */
+static void inventories(void)
+{
+    static const char line[] = "0:0:0:10:none:none:none:none:none\n";
+    uint8_t text[40];
+    struct file a = sample_a();
+    memset(text, 99, sizeof text);
+    struct buttresk_store_answer r = buttresk_inventory(a.octets, a.size, text, 33);
+    EXPECT(r.outcome == BUTTRESK_TEXT_TOO_SMALL && r.place == 0 && r.offset == 0 && r.detail == 0 && r.written == 0 && text[0] == 99);
+    r = buttresk_inventory(a.octets, a.size, text, sizeof text);
+    EXPECT(r.outcome == BUTTRESK_DONE && r.written == 34 && memcmp(text, line, 34) == 0 && text[34] == 99);
+    r = buttresk_inventory(a.octets, 84, text, 0);
+    EXPECT(r.outcome == BUTTRESK_CUT && r.place == 7 && r.offset == 82 && r.written == 0);
+    r = buttresk_inventory(a.octets, 0, text, 0);
+    EXPECT(r.outcome == BUTTRESK_DONE && r.written == 0);
+}
+
+static int listed(struct buttresk_list_answer a, uint64_t entries, uint64_t outcome, uint64_t detail)
+{
+    return a.entries == entries && a.outcome == outcome && a.place == 0 && a.offset == 0 && a.detail == detail;
+}
+
+static struct buttresk_list_answer read_text(const char *text, uint64_t *table, size_t numbers)
+{
+    for (int i = 0; i < 2 * BUTTRESK_ENTRY; i++) {
+        table[i] = 99;
+    }
+    return buttresk_read_list((const uint8_t *)text, strlen(text), table, numbers);
+}
+
+static void lists(void)
+{
+    static const uint64_t expected[2 * BUTTRESK_ENTRY] = {1, 2, 1099511627776, 255, 1, 8, 0, 0, 1, 9, 4294967295, 1, 103,
+                                                          0, 0, 0,             0,   0, 0, 1, 0, 0, 0, 0,          0, 0};
+    static const char two[] = "1:2:1099511627776:255:8:none:9:4294967295:103\n0:0:0:0:none:0:none:none:none\n";
+    uint64_t table[2 * BUTTRESK_ENTRY];
+    EXPECT(listed(read_text(two, table, 26), 2, BUTTRESK_DONE, 0) && memcmp(table, expected, sizeof table) == 0);
+    EXPECT(listed(read_text(two, table, 25), 1, BUTTRESK_SUBMESSAGE_TABLE_FULL, 0) && table[12] == 103 && table[13] == 99);
+    EXPECT(listed(read_text("0:0:0:0:0:0:0:0:0\n0:0:0:0:0:0:0:0:00\n", table, 26), 1, BUTTRESK_LINE_NOT_IN_FORM, 2));
+    EXPECT(table[4] == 1 && table[13] == 99);
+    EXPECT(listed(read_text("0:0:0:0:0:0:0:0:0", table, 26), 0, BUTTRESK_LINE_NOT_IN_FORM, 1) && table[0] == 99);
+    EXPECT(listed(read_text("", table, 0), 0, BUTTRESK_DONE, 0));
+}
+
 static void fields(void)
 {
     struct file a = sample_a();
@@ -253,6 +297,8 @@ int main(void)
     walks();
     copies();
     writes();
+    inventories();
+    lists();
     fields();
     products();
     printf("cface: %d checks, %d failed\n", checks, failed);

@@ -7,6 +7,7 @@ import stat
 import subprocess
 from pathlib import Path
 
+from command_listing import SEA as SEA_INVENTORY
 from command_reading import COLUMNS, SEA_FIELDS, SEA_INDEX, table
 from command_run import ROOT, Command, check, check_equal, folder, skip, write
 
@@ -160,14 +161,14 @@ def man_page_says_what_is_printed():
     text = MAN_PAGE.read_text()
     plain = re.sub(r"\\f.|\\&|\\%", "", text).replace("\\-", "-")
     refusals = re.findall(r'\{"([^"]+)", "((?:[^"\\]|\\.)+)", (?:NULL|"([^"]+)")\}', (ROOT / "cli" / "say.c").read_text())
-    check_equal("say.c has the refusals 0 to 19, and one for others", len(refusals), 21)
-    for number in [*range(1, 15), 19]:
+    check_equal("say.c has the refusals 0 to 21, and one for others", len(refusals), 23)
+    for number in [*range(1, 15), 19, 20, 21]:
         name, means, detail = refusals[number]
         entry = f"{number}\tT{{\n{name}: {means}\nT}}\t{detail or '0'}\n".replace('\\"', '"')
         check(f"the man page words refusal {number} as the command does", entry in plain, entry)
     rows = re.findall(r"^([a-z_]+)\t", plain.split(".TS\nlB l.\n")[1].split(".TE")[0], re.MULTILINE)
     check_equal("its table has the columns that are printed", rows, COLUMNS)
-    check("its example is what is printed", SEA_INDEX in plain)
+    check("its examples are what is printed", SEA_INDEX in plain and SEA_INVENTORY.decode() in plain)
 
 
 def everything():

@@ -10,8 +10,9 @@ use Rattle.index.specs.declared.line.Line.{Line}
 use Rattle.index.specs.declared.line.LocalUsePlace.{LocalUsePlace}
 use Rattle.index.specs.declared.line.LocalUsePlace.the-variants.{At, Absent}
 use Rattle.index.specs.Walk.{Told, walked}
-use Rattle.walk.specs.Tables.{roomOf, rowsOf, storedOver, answerOf, walkOf}
-use Rattle.walk.specs.Numbers.{linesOf, sevenOf, walkNumbers}
+use Rattle.standing.specs.Tables.{roomOf, rowsOf, storedOver}
+use Rattle.walk.specs.Tables.{answerOf, walkOf}
+use Rattle.walk_numbers.specs.Numbers.{linesOf, sevenOf, walkNumbers}
 use Rattle.pull.specs.Pull.{handsOut, pulled}
 use Rattle.pull.proofs.Sequence.{sequence}
 use Rattle.as_the_crate.specs.Std.{SectionInfo}

@@ -11,8 +11,9 @@ use Rattle.index.specs.Bounds.{mostOctets}
 use Rattle.index.specs.declared.bounds.Room.{Room}
 use Rattle.index.specs.declared.line.Line.{Line}
 use Rattle.index.specs.Walk.{walked}
-use Rattle.walk.specs.Tables.{rowsOf, storedOver, answerOf, walkOf}
-use Rattle.walk.specs.Numbers.{linesOf, sevenOf, walkNumbers}
+use Rattle.standing.specs.Tables.{rowsOf, storedOver}
+use Rattle.walk.specs.Tables.{answerOf, walkOf}
+use Rattle.walk_numbers.specs.Numbers.{linesOf, sevenOf, walkNumbers}
 use Rattle.pull.specs.Pull.{handsOut, pulled}
 use Rattle.pull.specs.Calls.{pullAt, afterCalls}
 use Rattle.as_the_crate.specs.Std.{Option, some, nothing, SectionInfo, info}

@@ -16,19 +16,7 @@ use Rattle.sections.specs.ReprDefinition.{reprDefinitionOf}
 use Rattle.sections.specs.BitMap.{bitMapOf}
 use Rattle.framing.specs.declared.read.Section.{Section}
 use Rattle.publish.specs.Values.{Terms, inStretch, inSpan, inMessage}
-use Rattle.blindness.specs.Agree.{
-  ownOctets,
-  payloadOf,
-  productSectionOf,
-  fieldsOf,
-  decoded,
-  ofIndicator,
-  ofIdentification,
-  ofGrid,
-  ofProduct,
-  ofRepresentation,
-  ofBitMap,
-}
+use Rattle.index.specs.Decoded.{ownOctets, payloadOf, productSectionOf, fieldsOf, decoded, ofIndicator, ofIdentification, ofGrid, ofProduct, ofRepresentation, ofBitMap}
 use Rattle.blindness.proofs.Spared.{Each, Still, Spared}
 use Rattle.blindness.proofs.Reading.{same-pick, every-octet, be-agree}
 use Rattle.blindness.proofs.Alike.{Seen}

@@ -29,21 +29,8 @@ use Rattle.index.specs.Walk.{Told, fitted, closing, byOrder, judgement, conclud
 use Rattle.publish.specs.Values.{Terms, inStretch, inSpan, carries, licensed, isValue, inMessage}
 use Rattle.publish.specs.Copy.{stays, blankedFrom, publicCopy}
 use Rattle.blindness.specs.Looks.{changed}
-use Rattle.blindness.specs.Agree.{
-  ownOctets,
-  payloadOf,
-  SectionFields,
-  ofIndicator,
-  ofIdentification,
-  ofGrid,
-  ofProduct,
-  ofRepresentation,
-  ofBitMap,
-  ofNone,
-  fieldsOf,
-  decoded,
-  Agree,
-}
+use Rattle.index.specs.Decoded.{ownOctets, payloadOf, SectionFields, ofIndicator, ofIdentification, ofGrid, ofProduct, ofRepresentation, ofBitMap, ofNone, fieldsOf, decoded}
+use Rattle.blindness.specs.Agree.{Agree}
 use Rattle.blindness.specs.Samples.{sampleOf, sample, SamplesAlike, NothingLess}
 
 -- two lists of one length, equal at every index where a test fails

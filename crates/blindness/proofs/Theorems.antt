@@ -18,12 +18,15 @@ use Rattle.index.specs.declared.refusal.Outcome.{Outcome}
 use Rattle.index.specs.declared.refusal.Outcome.the-variants.{Clean, Refused}
 use Rattle.index.specs.Bounds.{unlimited}
 use Rattle.index.specs.declared.bounds.Room.{Room}
-use Rattle.index.specs.Walk.{walked}
-use Rattle.walk.specs.Tables.{roomOf, walkOf}
+use Rattle.index.specs.Walk.{Told, walked}
+use Rattle.standing.specs.Tables.{roomOf}
+use Rattle.walk.specs.Tables.{walkOf}
 use Rattle.publish.specs.Values.{Terms, isValue, inMessage}
 use Rattle.publish.specs.Copy.{stays, publicCopy, byOutcome, copyOf}
 use Rattle.blindness.specs.Looks.{isBlind}
-use Rattle.blindness.specs.Agree.{decoded, Agree}
+use Rattle.index.specs.Decoded.{SectionFields, decoded}
+use Rattle.inventory.specs.Inventory.{forEach, entryAt, TextWritten, inventoryBy, entriesOf, inventoryOf}
+use Rattle.blindness.specs.Agree.{Agree}
 use Rattle.blindness.specs.Blindness.{One, Public, Blindness, LentBlindness, PublicCopies}
 use Rattle.blindness.proofs.Spared.{Each, Spared, spared, and-left, and-right}
 use Rattle.blindness.proofs.Reading.{same-pick, every-octet, Eq}
@@ -52,6 +55,17 @@ tables-same : (f g rows : List ℕ) (lines : List Line)
     → walkOf f rows lines ≡ walkOf g rows lines
 unfolding walkOf
 tables-same f g rows lines e = rw e
+
+-- an inventory is of the walk and of what is decoded
+inventory-same : (f g : List ℕ) → walked unlimited f ≡ walked unlimited g
+    → decoded f (walked unlimited f .sections) ≡ decoded g (walked unlimited g .sections)
+    → (text : List ℕ) → inventoryOf f text ≡ inventoryOf g text
+unfolding inventoryOf entriesOf
+inventory-same f g walks fields text =
+    ap (λ t. by t (decoded f (walked unlimited f .sections))) walks ∙ ap (by (walked unlimited g)) fields
+  where
+    by : Told → List SectionFields → TextWritten
+    by t said = inventoryBy (t .outcome) (forEach (t .lines) (entryAt (t .sections) said)) text
 
 -- what is decoded of two files that are listed alike, and have the same of each section
 decoding-same : (terms : Terms) → Spared terms → (f g : List ℕ) → length f ≡ length g → listing f ≡ listing g
@@ -121,6 +135,8 @@ module _ (terms : Terms) (passed : isBlind terms ≡ true) where
           one-walk = λ r. walked-same r f g same same-listing;
           one-tables = λ rows lines. tables-same f g rows lines (walked-same (roomOf (length rows) (length lines)) f g same same-listing);
           one-decoding = decoding-same terms (spared terms passed) f g same same-listing seen;
+          one-inventory = inventory-same f g (walked-same unlimited f g same same-listing)
+              (decoding-same terms (spared terms passed) f g same same-listing seen unlimited);
           one-copy = same-copy;
           one-call = same-call;
         }
@@ -159,6 +175,10 @@ module _ (terms : Terms) (passed : isBlind terms ≡ true) where
     copy-walks : (room : Room) → walked room copy ≡ walked room f
     copy-walks room = sym (walked-same room f copy (sym (length-copy terms f)) copy-listed)
 
+    copy-decodes : (room : Room) → decoded copy (walked room copy .sections) ≡ decoded f (walked room f .sections)
+    copy-decodes room =
+        sym (decoding-same terms (spared terms passed) f copy (sym (length-copy terms f)) copy-listed copy-seen room)
+
     public : Public terms f copy
     public =
         record {
@@ -166,8 +186,8 @@ module _ (terms : Terms) (passed : isBlind terms ≡ true) where
           copy-listing = sym copy-listed;
           copy-walk = copy-walks;
           copy-tables = λ rows lines. tables-same copy f rows lines (copy-walks (roomOf (length rows) (length lines)));
-          copy-decoding = λ room.
-              sym (decoding-same terms (spared terms passed) f copy (sym (length-copy terms f)) copy-listed copy-seen room);
+          copy-decoding = copy-decodes;
+          copy-inventory = inventory-same copy f (copy-walks unlimited) (copy-decodes unlimited);
           copy-octet = λ k _. copy-keeps terms f k;
           copy-no-value = λ k h. copy-zeros terms f k (value-goes terms f k h);
           copy-outside = λ k h. copy-zeros terms f k (outside-goes terms f k h);

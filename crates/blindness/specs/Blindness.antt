@@ -1,6 +1,6 @@
--- Demand 3: nothing that is listed, told, decoded or copied depends on a values octet, and a public
--- copy is as good as its file (01, "Values octets and the public copy"). Statements only:
--- `proofs/Theorems.antt` has their proofs.
+-- Demand 3: nothing that is listed, told, decoded, written or copied depends on a values octet, and
+-- a public copy is as good as its file (01, "Values octets and the public copy"; 02, Ticket 1).
+-- Statements only: `proofs/Theorems.antt` has their proofs.
 use Prim.Native.Nat.{ℕ, _<_}
 use mathlib.Core.Bool.{true, false}
 use mathlib.Core.List.{List}
@@ -13,19 +13,22 @@ use Rattle.index.specs.Bounds.{unlimited}
 use Rattle.index.specs.declared.bounds.Room.{Room}
 use Rattle.index.specs.Walk.{walked}
 use Rattle.walk.specs.Tables.{walkOf}
+use Rattle.inventory.specs.Inventory.{inventoryOf}
 use Rattle.publish.specs.Values.{Terms, onward, licensed, isValue, inMessage}
 use Rattle.publish.specs.Copy.{publicCopy, copyOf}
 use Rattle.blindness.specs.Looks.{isBlind, changed, fourStretches, sixStretches}
-use Rattle.blindness.specs.Agree.{decoded, Alike, AlikeLent}
+use Rattle.index.specs.Decoded.{decoded}
+use Rattle.blindness.specs.Agree.{Alike, AlikeLent}
 
 -- two files are one to every reader: sections, lines, counts and end answer, with any tables;
--- decoded fields; the public copy and its call
+-- decoded fields; the inventory's call, also where 20 is the answer; the public copy and its call
 pub record One (terms : Terms) (f g : List ℕ) : Type 0 where
   pub one-listing : listing f ≡ listing g
   pub one-walk : (room : Room) → walked room f ≡ walked room g
   pub one-tables : (rows : List ℕ) (lines : List Line) → walkOf f rows lines ≡ walkOf g rows lines
   pub one-decoding : (room : Room)
       → decoded f (walked room f .sections) ≡ decoded g (walked room g .sections)
+  pub one-inventory : (text : List ℕ) → inventoryOf f text ≡ inventoryOf g text
   pub one-copy : walked unlimited f .outcome ≡ Clean → publicCopy terms f ≡ publicCopy terms g
   pub one-call : (dest : List ℕ) → copyOf terms f dest ≡ copyOf terms g dest
 
@@ -39,6 +42,7 @@ pub record Public (terms : Terms) (f copy : List ℕ) : Type 0 where
       → walkOf copy rows lines ≡ walkOf f rows lines
   pub copy-decoding : (room : Room)
       → decoded copy (walked room copy .sections) ≡ decoded f (walked room f .sections)
+  pub copy-inventory : (text : List ℕ) → inventoryOf copy text ≡ inventoryOf f text
   pub copy-octet : (k : ℕ) → k < length f → inMessage f (walked unlimited f .sections) k ≡ true
       → isValue terms (walked unlimited f .sections) k ≡ false → getD copy k 0 ≡ getD f k 0
   pub copy-no-value : (k : ℕ) → isValue terms (walked unlimited f .sections) k ≡ true

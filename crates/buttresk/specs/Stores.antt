@@ -1,5 +1,5 @@
--- An answer of the public copy or of the writer: outcome, place, offset, detail and the octets
--- written (01, "Refusal numbers").
+-- An answer of the public copy, of the writer or of the inventory: outcome, place, offset, detail
+-- and the octets written (01, "Refusal numbers").
 use Rattle.index.specs.declared.numbers.StoreEnd.{StoreEnd}
 use Rattle.buttresk.specs.declared.storing.StoreAnswer.{StoreAnswer}
 

@@ -1,13 +1,17 @@
-// The public copy and the writer: a destination is lent, and the answer is how it ended and the
-// octets written.
+// The public copy, the writer and the inventory: a destination is lent, and the answer is how it
+// ended and the octets written.
 ghost use mathlib.Core.Path.{_≡_};
 ghost use Rattle.publish.specs.Values.{licensed};
 ghost use Rattle.publish.specs.Copy.{copyOf};
 ghost use Rattle.publish.specs.End.{copyEnd};
 ghost use Rattle.writer.specs.Write.{writeOf};
 ghost use Rattle.writer.specs.End.{writeEnd};
+ghost use Rattle.inventory.specs.Inventory.{inventoryOf};
+ghost use Rattle.inventory.specs.End.{inventoryEnd};
 ghost use Rattle.buttresk.specs.Stores.{fiveOf};
 use index::StoreEnd;
+use inventory::inventory;
+use inventory::inventory_end;
 use publish::copy_end;
 use publish::publish;
 use writer::write;
@@ -64,4 +68,15 @@ pub extern "C" fn buttresk_write(
         (now (plan .entry)) (now (store .entry)) (now (dest .entry)) .dest ⌝ }
 {
     five_of(write_end(write(discipline, reserved_1, reserved_2, plan, store, dest)))
+}
+
+// Writes the inventory of a file; a refusal leaves the buffer as it was.
+#[no_mangle]
+pub extern "C" fn buttresk_inventory(file: &[u8], text: &mut [u8]) -> StoreAnswer
+    ensures answer { λ r. ⌜ r ≡ fiveOf (inventoryEnd
+        (inventoryOf (now (file .entry)) (now (text .entry)) .answer)) ⌝ }
+    ensures text { λ _. ⌜ now (text .exit)
+        ≡ inventoryOf (now (file .entry)) (now (text .entry)) .text ⌝ }
+{
+    five_of(inventory_end(inventory(file, text)))
 }

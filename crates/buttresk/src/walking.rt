@@ -1,8 +1,8 @@
 // The walk of a file, with both tables lent as numbers.
 ghost use mathlib.Core.Path.{_≡_};
-ghost use Rattle.walk.specs.Numbers.{walkNumbers};
-use walk::WalkAnswer;
-use walk::walk_numbers;
+ghost use Rattle.walk_numbers.specs.Numbers.{walkNumbers};
+use walk_numbers::WalkAnswer;
+use walk_numbers::walk_numbers;
 
 // Walks a file. The tables are lent as numbers, three to a section's row and twelve to a line; what
 // is left over is no room. Lines that were stored before a refusal stand, and room beyond the

@@ -190,7 +190,7 @@ module _ (told : List Section) (r : Reached) (s : Section) (force : InForce told
       going on room (judged SubmessageStart (s .number)) refl)
       λ off. plain off room (judged (r .order) (s .number)) refl
 
-every-append : {A : Type 0} (So : A → Type 0) (a b : List A) → Every So a → Every So b → Every So (a ++ b)
+pub every-append : {A : Type 0} (So : A → Type 0) (a b : List A) → Every So a → Every So b → Every So (a ++ b)
 every-append So [] b p q = q
 every-append So (x ∷ a) b p q = (p .0, every-append So a b (p .1) q)
 

@@ -61,11 +61,11 @@ endOf (outcome.Refused why place offset) =
       detail = refusalDetail why;
     }
 
--- for the copy and the writer an answer is these four and the octets written
+-- for the copy, the writer and the inventory an answer is these four and the octets written
 unfoldable pub stored : ℕ → StoreEnd
 stored octets = record { end = endOf outcome.Clean; written = octets }
 
--- for 1 and 15 to 19 place and offset are zeros; a refusal writes nothing
+-- for 1 and 15 to 20 place and offset are zeros; a refusal writes nothing
 unfoldable pub unplaced : ℕ → ℕ → StoreEnd
 unplaced outcome detail =
     record {

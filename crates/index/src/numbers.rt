@@ -118,7 +118,7 @@ pub fn stored(octets: u64) -> StoreEnd
     }
 }
 
-// A refusal that has no place in a file: 1 and 15 to 19.
+// A refusal that has no place in a file: 1 and 15 to 20.
 pub fn unplaced(outcome: u64, detail: u64) -> StoreEnd
     ensures { λ r. ⌜ r ≡ unplaced outcome detail ⌝ }
 {

@@ -1,7 +1,7 @@
 -- Each public function gives its definition (specs/Public.antt): its contract says so, and it meets its contract.
 use Prim.Native.Nat.{ℕ}
 use mathlib.Core.List.{List, [], _∷_}
-use mathlib.Core.Path.{_≡_, refl}
+use mathlib.Core.Path.{_≡_, refl, ap}
 use base.Logic.{id⊢}
 use mir.Syntax.{Width, w8, w64}
 use contract.Monad.{fact-mono}
@@ -21,21 +21,32 @@ use Rattle.framing.proofs as framing
 use Rattle.order.proofs as order
 use Rattle.index.proofs as index
 use Rattle.reading.proofs as reading
+use Rattle.standing.proofs as standing
 use Rattle.walk.proofs as walk
+use Rattle.walk_numbers.proofs as walk_numbers
 use Rattle.pull.proofs as pull
 use Rattle.publish.proofs as publish
 use Rattle.writer.proofs as writer
+use Rattle.entries.proofs as entries
+use Rattle.inventory.proofs as inventory
+use Rattle.lists.proofs as lists
+use Rattle.requests.proofs as requests
 use Rattle.buttresk.proofs as buttresk
 use Rattle.framing.proofs.read.Cursor as Cursor
+use Rattle.framing.proofs.read.Section as Section
 use Rattle.order.proofs.Order as Order
 use Rattle.order.proofs.Place as Place
 use Rattle.index.proofs.line.Force as Force
 use Rattle.index.proofs.line.Line as Line
 use Rattle.index.proofs.refusal.Outcome as Outcome
 use Rattle.reading.proofs.Reading as Reading
+use Rattle.standing.proofs.Standing as Standing
 use Rattle.pull.proofs.Progress as Progress
 use Rattle.publish.proofs.Published as Published
 use Rattle.writer.proofs.Written as Written
+use Rattle.entries.proofs.Entry as Entry
+use Rattle.inventory.proofs.Inventoried as Inventoried
+use Rattle.lists.proofs.ListEnd as ListEnd
 use Rattle.framing.proofs.NextStart.{next-start-is}
 use Rattle.pull.specs.declared.Progress.{Progress}
 use Rattle.pull.specs.declared.Pulled.{Pulled}
@@ -72,6 +83,12 @@ plain-Outcome = record { pure = λ d. Outcome.Laws.the-field-plain (Outcome.the-
 plain-Reading : Plain Reading.the-row
 plain-Reading = record { pure = λ d. Reading.Laws.the-field-plain (Reading.the-type .to d) }
 
+plain-Section : Plain Section.the-row
+plain-Section = record { pure = λ d. Section.Laws.the-field-plain (Section.the-type .to d) }
+
+plain-Standing : Plain Standing.the-row
+plain-Standing = record { pure = λ d. Standing.Laws.the-field-plain (Standing.the-type .to d) }
+
 plain-Progress : Plain Progress.the-row
 plain-Progress = record { pure = λ d. Progress.Laws.the-field-plain (Progress.the-type .to d) }
 
@@ -80,6 +97,15 @@ plain-Published = record { pure = λ d. Published.Laws.the-field-plain (Publishe
 
 plain-Written : Plain Written.the-row
 plain-Written = record { pure = λ d. Written.Laws.the-field-plain (Written.the-type .to d) }
+
+plain-Entry : Plain Entry.the-row
+plain-Entry = record { pure = λ d. Entry.Laws.the-field-plain (Entry.the-type .to d) }
+
+plain-Inventoried : Plain Inventoried.the-row
+plain-Inventoried = record { pure = λ d. Inventoried.Laws.the-field-plain (Inventoried.the-type .to d) }
+
+plain-ListEnd : Plain ListEnd.the-row
+plain-ListEnd = record { pure = λ d. ListEnd.Laws.the-field-plain (ListEnd.the-type .to d) }
 
 line : Element Line.the-row
 line = record { plain = plain-Line; single = tt; lawful = λ 𝓤 H A W. lawful Line.the-type Line.Laws.the-laws 𝓤 H A W }
@@ -126,8 +152,11 @@ module _ {M : Type 1} where
     reading-start = by 0 [] (λ n. refl) (λ 𝓤 H A content run κs a. tt) reading.start.Met.met (λ n r e. id⊢ (n .memory) _);
     reading-look = by 1 (to-read 0 tt (number w8) ∷ by-value plain-Reading ∷ []) (λ n. refl) (λ 𝓤 H A content run κs a. tt) reading.look.Met.met (λ n r e. id⊢ (n .memory) _);
     reading-glance = by 1 (to-read 0 tt (number w8) ∷ by-value plain-Reading ∷ []) (λ n. refl) (λ 𝓤 H A content run κs a. tt) reading.glance.Met.met (λ n r e. id⊢ (n .memory) _);
+    standing-one-more = by 0 (by-value (plain-number w64) ∷ []) (λ n. refl) (λ 𝓤 H A content run κs a. tt) standing.one_more.Met.met (λ n r e. id⊢ (n .memory) _);
+    standing-passed-row = by 0 (by-value plain-Standing ∷ by-value plain-Section ∷ by-value plain-Reading ∷ []) (λ n. refl) (λ 𝓤 H A content run κs a. tt) standing.passed_row.Met.met (λ n r e. id⊢ (n .memory) _);
+    standing-put-row = by 1 (to-write 0 tt (number w64) ∷ by-value (plain-number w64) ∷ by-value plain-Section ∷ []) (λ n. refl) (λ 𝓤 H A content run κs a. tt) standing.put_row.Met.met (λ n r e. fact-mono (n .memory) _ _ (λ same. ap (λ (rows : List ℕ). (r, rows)) same));
     walk-walk = by 3 (to-read 0 tt (number w8) ∷ to-write 1 tt (number w64) ∷ to-write 2 tt line ∷ []) (λ n. refl) (λ 𝓤 H A content run κs a. tt) walk.walk.Met.met (λ n r e. three (n .memory) (λ answer rows lines. ((answer, rows), lines)));
-    walk-walk-numbers = by 3 (to-read 0 tt (number w8) ∷ to-write 1 tt (number w64) ∷ to-write 2 tt (number w64) ∷ []) (λ n. refl) (λ 𝓤 H A content run κs a. tt) walk.walk_numbers.Met.met (λ n r e. three (n .memory) (λ answer rows lines. ((answer, rows), lines)));
+    walk-numbers-walk-numbers = by 3 (to-read 0 tt (number w8) ∷ to-write 1 tt (number w64) ∷ to-write 2 tt (number w64) ∷ []) (λ n. refl) (λ 𝓤 H A content run κs a. tt) walk_numbers.walk_numbers.Met.met (λ n r e. three (n .memory) (λ answer rows lines. ((answer, rows), lines)));
     pull-first = by 1 (to-read 0 tt (number w8) ∷ []) (λ n. refl) (λ 𝓤 H A content run κs a. tt) pull.first.Met.met (λ n r e. id⊢ (n .memory) _);
     pull-pull-at = by 1 (to-read 0 tt (number w8) ∷ by-value plain-Progress ∷ []) (λ n. refl) (λ 𝓤 H A content run κs a. tt) pull.pull_at.Met.met (λ n r e. id⊢ (n .memory) _);
     pull-new = by 1 (to-read 0 tt (number w8) ∷ []) (λ n. refl) (λ 𝓤 H A content run κs a. tt) pull.new.Met.met (λ n r e. fact-mono (n .memory) _ _ (λ h. one-reader (h .0) (h .1)));
@@ -140,9 +169,17 @@ module _ {M : Type 1} where
     publish-copy-end = by 0 (by-value plain-Published ∷ []) (λ n. refl) (λ 𝓤 H A content run κs a. tt) publish.copy_end.Met.met (λ n r e. id⊢ (n .memory) _);
     writer-write = by 3 (by-value (plain-number w8) ∷ by-value (plain-number w8) ∷ by-value (plain-number w8) ∷ to-read 0 tt (number w64) ∷ to-read 1 tt (number w8) ∷ to-write 2 tt (number w8) ∷ []) (λ n. refl) (λ 𝓤 H A content run κs a. tt) writer.write.Met.met (λ n r e. both (n .memory) (λ answer dest. (answer, dest)));
     writer-write-end = by 0 (by-value plain-Written ∷ []) (λ n. refl) (λ 𝓤 H A content run κs a. tt) writer.write_end.Met.met (λ n r e. id⊢ (n .memory) _);
+    entries-spell = by 0 (by-value plain-Entry ∷ []) (λ n. refl) (λ 𝓤 H A content run κs a. tt) entries.spell.Met.met (λ n r e. id⊢ (n .memory) _);
+    inventory-inventory = by 2 (to-read 0 tt (number w8) ∷ to-write 1 tt (number w8) ∷ []) (λ n. refl) (λ 𝓤 H A content run κs a. tt) inventory.inventory.Met.met (λ n r e. both (n .memory) (λ answer dest. (answer, dest)));
+    inventory-inventory-end = by 0 (by-value plain-Inventoried ∷ []) (λ n. refl) (λ 𝓤 H A content run κs a. tt) inventory.inventory_end.Met.met (λ n r e. id⊢ (n .memory) _);
+    lists-read-list = by 2 (to-read 0 tt (number w8) ∷ to-write 1 tt (number w64) ∷ []) (λ n. refl) (λ 𝓤 H A content run κs a. tt) lists.read_list.Met.met (λ n r e. both (n .memory) (λ answer dest. (answer, dest)));
+    lists-list-end = by 0 (by-value plain-ListEnd ∷ []) (λ n. refl) (λ 𝓤 H A content run κs a. tt) lists.list_end.Met.met (λ n r e. id⊢ (n .memory) _);
+    requests-request-at = by 1 (to-read 0 tt (number w8) ∷ by-value (plain-number w64) ∷ []) (λ n. refl) (λ 𝓤 H A content run κs a. tt) requests.request_at.Met.met (λ n r e. id⊢ (n .memory) _);
     buttresk-walk = by 3 (to-read 0 tt (number w8) ∷ to-write 1 tt (number w64) ∷ to-write 2 tt (number w64) ∷ []) (λ n. refl) (λ 𝓤 H A content run κs a. tt) buttresk.buttresk_walk.Met.met (λ n r e. three (n .memory) (λ answer rows lines. ((answer, rows), lines)));
     buttresk-publish = by 2 (to-read 0 tt (number w8) ∷ to-write 1 tt (number w8) ∷ []) (λ n. refl) (λ 𝓤 H A content run κs a. tt) buttresk.buttresk_publish.Met.met (λ n r e. both (n .memory) (λ answer dest. (answer, dest)));
     buttresk-write = by 3 (by-value (plain-number w8) ∷ by-value (plain-number w8) ∷ by-value (plain-number w8) ∷ to-read 0 tt (number w64) ∷ to-read 1 tt (number w8) ∷ to-write 2 tt (number w8) ∷ []) (λ n. refl) (λ 𝓤 H A content run κs a. tt) buttresk.buttresk_write.Met.met (λ n r e. both (n .memory) (λ answer dest. (answer, dest)));
+    buttresk-inventory = by 2 (to-read 0 tt (number w8) ∷ to-write 1 tt (number w8) ∷ []) (λ n. refl) (λ 𝓤 H A content run κs a. tt) buttresk.buttresk_inventory.Met.met (λ n r e. both (n .memory) (λ answer dest. (answer, dest)));
+    buttresk-read-list = by 2 (to-read 0 tt (number w8) ∷ to-write 1 tt (number w64) ∷ []) (λ n. refl) (λ 𝓤 H A content run κs a. tt) buttresk.buttresk_read_list.Met.met (λ n r e. both (n .memory) (λ answer dest. (answer, dest)));
     buttresk-indicator = by 1 (to-read 0 tt (number w8) ∷ []) (λ n. refl) (λ 𝓤 H A content run κs a. tt) buttresk.buttresk_indicator.Met.met (λ n r e. id⊢ (n .memory) _);
     buttresk-identification = by 1 (to-read 0 tt (number w8) ∷ []) (λ n. refl) (λ 𝓤 H A content run κs a. tt) buttresk.buttresk_identification.Met.met (λ n r e. id⊢ (n .memory) _);
     buttresk-grid-definition = by 1 (to-read 0 tt (number w8) ∷ []) (λ n. refl) (λ 𝓤 H A content run κs a. tt) buttresk.buttresk_grid_definition.Met.met (λ n r e. id⊢ (n .memory) _);

@@ -10,14 +10,15 @@ use Rattle.framing.specs.declared.read.Section.{Section}
 use Rattle.index.specs.Numbers.{endOf}
 use Rattle.index.specs.Bounds.{unlimited}
 use Rattle.index.specs.Walk.{Told, walked}
-use Rattle.walk.specs.Tables.{roomOf}
-use Rattle.walk.specs.Numbers.{walkNumbers}
+use Rattle.standing.specs.Tables.{roomOf}
+use Rattle.walk_numbers.specs.Numbers.{walkNumbers}
 use Rattle.pull.specs.Calls.{pullAt, afterCalls}
 use Rattle.pull.specs.Pull.{handsOut, pulled}
 use Rattle.pull.proofs.Sequence.{sequence}
 use Rattle.publish.specs.Values.{licensed}
 use Rattle.publish.specs.Copy.{publicCopy}
-use Rattle.blindness.specs.Agree.{SectionFields, ofIndicator, ofIdentification, ofGrid, ofProduct, ofRepresentation, ofBitMap, ofNone, productSectionOf, fieldsOf, decoded, Alike}
+use Rattle.index.specs.Decoded.{SectionFields, ofIndicator, ofIdentification, ofGrid, ofProduct, ofRepresentation, ofBitMap, ofNone, productSectionOf, fieldsOf, decoded}
+use Rattle.blindness.specs.Agree.{Alike}
 use Rattle.blindness.specs.Blindness.{One, Public}
 use Rattle.blindness.proofs.Spared.{terms-pass}
 use Rattle.blindness.proofs.Theorems.{blindness, public-copies}

@@ -22,9 +22,11 @@ use Rattle.promises.specs.Promises.{Demand1, Demand2, Demand3}
 use Rattle.promises.specs.AllTerms.{ForAllTerms}
 use Rattle.promises.proofs.Answers.{each-gives-its-definition}
 use Rattle.promises.proofs.Leaves.{walk-stores, numbers-store, copy-leaves, write-leaves}
+use Rattle.promises.proofs.Listing.{inventory-leaves, list-stores}
 use Rattle.promises.proofs.Pulling.{pull-hands-out}
 use Rattle.promises.proofs.Copying.{copied, copy-refused-exactly-when, copy-written-exactly-when}
 use Rattle.promises.proofs.Writing.{plan-refused-exactly-when, plan-taken-exactly-when, one-message-is-in-order, written-reads-back}
+use Rattle.promises.proofs.Inventory.{text-inventory}
 use Rattle.promises.proofs.Blind.{one, public, equal-numbers, equal-faces, equal-pulls}
 
 -- what was stored stands, and all else lent is untouched
@@ -34,8 +36,9 @@ demand-1 =
       each-gives = each-gives-its-definition;
       walk-stores = walk-stores;
       numbers-store = numbers-store;
-      copy-leaves = copy-leaves;
-      write-leaves = write-leaves;
+      list-stores = list-stores;
+      nothing-else =
+          record { copy-leaves = copy-leaves; write-leaves = write-leaves; inventory-leaves = inventory-leaves };
     }
 
 -- what makes the definitions worth believing
@@ -65,6 +68,7 @@ demand-2 =
       pull-hands-out = pull-hands-out;
       copy-refuses = copy-refused-exactly-when;
       copy-written = copy-written-exactly-when;
+      inventory = text-inventory;
       plan-refused = plan-refused-exactly-when;
       plan-taken = plan-taken-exactly-when;
       one-message = one-message-is-in-order;

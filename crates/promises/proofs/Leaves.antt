@@ -15,8 +15,9 @@ use Rattle.index.specs.declared.refusal.Outcome.{Outcome}
 use Rattle.index.specs.declared.refusal.Outcome.the-variants as outcome
 use Rattle.index.specs.Bounds.{unlimited}
 use Rattle.index.specs.Walk.{walked}
-use Rattle.walk.specs.Tables.{roomOf, rowsOf, storedOver, walkOf}
-use Rattle.walk.specs.Numbers.{lineNumbers, linesOf, walkNumbers}
+use Rattle.standing.specs.Tables.{roomOf, rowsOf, storedOver}
+use Rattle.walk.specs.Tables.{walkOf}
+use Rattle.walk_numbers.specs.Numbers.{lineNumbers, linesOf, walkNumbers}
 use Rattle.publish.specs.Values.{licensed}
 use Rattle.publish.specs.Copy.{publicCopy, Copied, byOutcome, copyOf}
 use Rattle.publish.specs.End.{copyEnd}
@@ -33,7 +34,7 @@ use Rattle.blindness.proofs.Copies.{length-copy}
 use Rattle.promises.specs.Lent.{Leaves, Holds, WalkStores, NumbersStore, CopyLeaves, WriteLeaves}
 
 -- so where so many are put in front of the others
-in-front : {A : Type 0} (new before : List A) (n : ℕ) → length new ≡ n → n ≤ length before → Leaves n before (new ++ drop n before)
+pub in-front : {A : Type 0} (new before : List A) (n : ℕ) → length new ≡ n → n ≤ length before → Leaves n before (new ++ drop n before)
 in-front new before n so-many room =
     let whole = length-append new (drop n before) in
     let rest = length-drop n before in
@@ -52,7 +53,7 @@ twelve-each [] = refl
 twelve-each (l ∷ more) = let later = twelve-each more in let sum = length-append (lineNumbers l) (linesOf more) in omega arith
 
 -- a table that is filled in front
-held : {A : Type 0} (new before : List A) → length new ≤ length before → Holds new before (storedOver new before)
+pub held : {A : Type 0} (new before : List A) → length new ≤ length before → Holds new before (storedOver new before)
 held new before fits = (take-at new (drop (length new) before) (length new) refl, in-front new before (length new) refl fits)
 
 -- rows in as many numbers as there is room for

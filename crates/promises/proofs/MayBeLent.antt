@@ -17,7 +17,7 @@ use Rattle.index.proofs.line.Line as LineRow
 use Rattle.index.specs.declared.line.Line.{Line}
 use Rattle.index.specs.declared.line.LocalUsePlace.{LocalUsePlace}
 use Rattle.index.specs.declared.line.LocalUsePlace.the-variants.{At, Absent}
-use Rattle.walk.specs.Numbers.{localPlace, lineNumbers, linesOf}
+use Rattle.walk_numbers.specs.Numbers.{localPlace, lineNumbers, linesOf}
 use Rattle.promises.specs.Parameters.{Representable, AllRepresentable, MayBeLent}
 
 numbers-fit : (w : Width) (ns : List ℕ) → AllFit w ns → AllRepresentable (UInt w) ns

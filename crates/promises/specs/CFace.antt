@@ -10,7 +10,7 @@ use Rattle.sections.specs.GridDefinition.{gridDefinitionOf}
 use Rattle.sections.specs.ReprDefinition.{reprDefinitionOf}
 use Rattle.sections.specs.BitMap.{bitMapOf}
 use Rattle.framing.specs.declared.read.Section.{Section}
-use Rattle.blindness.specs.Agree.{ownOctets, payloadOf}
+use Rattle.index.specs.Decoded.{ownOctets, payloadOf}
 use Rattle.buttresk.specs.Fields as fields
 use Rattle.buttresk.specs.Product.{productFields}
 use Rattle.buttresk.specs.declared.fields.IndicatorFields.{IndicatorFields}

@@ -1,18 +1,23 @@
--- What a walk, a public copy and a writer leave of the memory that they are lent (01, "Refusal
--- numbers": what was stored before stands, all else lent is untouched).
+-- What a walk, a public copy, a writer, an inventory and the reader of a list leave of the memory
+-- that they are lent (01, "Refusal numbers": what was stored before stands, all else lent is
+-- untouched).
 use Prim.Native.Nat.{ℕ, _/_}
 use mathlib.Core.Path.{_≡_}
 use mathlib.Core.List.{List}
 use lib.ListN.{length, take, drop}
 use Rattle.index.specs.declared.line.Line.{Line}
 use Rattle.index.specs.Walk.{walked}
-use Rattle.walk.specs.Tables.{roomOf, rowsOf, answerOf, walkOf}
-use Rattle.walk.specs.Numbers.{linesOf, sevenOf, walkNumbers}
+use Rattle.standing.specs.Tables.{roomOf, rowsOf}
+use Rattle.walk.specs.Tables.{answerOf, walkOf}
+use Rattle.walk_numbers.specs.Numbers.{linesOf, sevenOf, walkNumbers}
 use Rattle.publish.specs.Values.{licensed}
 use Rattle.publish.specs.Copy.{copyOf}
 use Rattle.publish.specs.End.{copyEnd}
 use Rattle.writer.specs.Write.{writeOf}
 use Rattle.writer.specs.End.{writeEnd}
+use Rattle.inventory.specs.Inventory.{inventoryOf}
+use Rattle.inventory.specs.End.{inventoryEnd}
+use Rattle.lists.specs.Lists.{listTold, listNumbers, readOf}
 
 -- lent memory keeps its length, and past the first n it is what it was
 abbrev pub Leaves : {A : Type 0} → ℕ → List A → List A → Type 0
@@ -41,6 +46,16 @@ NumbersStore =
     × Holds (linesOf (told .lines)) lines (lent .lines)
     × (lent .answer ≡ sevenOf (answerOf told))
 
+-- the reader of a list stores every entry that it reads before its end, and counts them
+abbrev pub ListStores : Type 0
+ListStores =
+    (text table : List ℕ)
+    → let told = listTold (length table / 13) text in
+    let lent = readOf text table in
+    Holds (listNumbers (told .entries)) table (lent .table)
+    × (lent .answer .entries ≡ length (told .entries))
+    × (lent .answer .end ≡ told .end)
+
 -- a refused copy writes nothing; else nothing past what the answer counts
 abbrev pub CopyLeaves : Type 0
 CopyLeaves =
@@ -54,3 +69,16 @@ WriteLeaves =
     (discipline reserved₁ reserved₂ : ℕ) (plan store dest : List ℕ)
     → let wrote = writeOf discipline reserved₁ reserved₂ plan store dest in
     Leaves (writeEnd (wrote .answer) .written) dest (wrote .dest)
+
+-- so does a refused inventory
+abbrev pub InventoryLeaves : Type 0
+InventoryLeaves =
+    (file text : List ℕ)
+    → let wrote = inventoryOf file text in
+    Leaves (inventoryEnd (wrote .answer) .written) text (wrote .text)
+
+-- all three
+pub record NothingElseIsWritten : Type 0 where
+  pub copy-leaves : CopyLeaves
+  pub write-leaves : WriteLeaves
+  pub inventory-leaves : InventoryLeaves

@@ -21,7 +21,7 @@ use denote.Exit.{yes}
 use denote.Triple.End.{Outs, all}
 use Rattle.index.proofs.line.Line as LineRow
 use Rattle.index.specs.declared.line.Line.{Line}
-use Rattle.walk.specs.Numbers.{linesOf}
+use Rattle.walk_numbers.specs.Numbers.{linesOf}
 use Rattle.promises.specs.Contract.{Contract, Promised}
 
 -- a parameter of a function of n lifetimes, with its Rattle type: by value, or a slice that is lent

@@ -8,7 +8,7 @@ use Rattle.index.specs.Numbers.{endOf}
 use Rattle.index.specs.Bounds.{unlimited}
 use Rattle.index.specs.Walk.{walked}
 use Rattle.index.specs.Pins as pins
-use Rattle.walk.specs.Numbers.{walkNumbers}
+use Rattle.walk_numbers.specs.Numbers.{walkNumbers}
 use Rattle.pull.specs.Calls.{pullAt, afterCalls}
 use Rattle.publish.specs.Values.{licensed}
 use Rattle.publish.specs.Copy.{copyOf}
@@ -27,6 +27,7 @@ use Rattle.promises.specs.Lent as lent
 use Rattle.promises.specs.Handed.{PullHandsOut}
 use Rattle.promises.specs.CopyGiven.{CopyRefusedExactlyWhen, CopyWrittenExactlyWhen}
 use Rattle.promises.specs.PlanAnswered as plan
+use Rattle.promises.specs.InventoryAnswered.{TextInventory}
 use Rattle.promises.specs.CFace.{faceOf}
 
 -- 1. Every file, plan and lent table, of any content, gets an answer, and the call ends. Bad input
@@ -36,11 +37,11 @@ pub record Demand1 : Type 2 where
   -- every public function asks for nothing, can be called with any contents, ends, and gives the
   -- definition that is written beside its name: of contents alone, wherever they lie
   pub each-gives : EachGivesItsDefinition
-  -- the walks store what they tell before their end, and leave all else; a copy, a message too
+  -- walks and the reader of a list store what they tell before their end, and leave all else
   pub walk-stores : lent.WalkStores
   pub numbers-store : lent.NumbersStore
-  pub copy-leaves : lent.CopyLeaves
-  pub write-leaves : lent.WriteLeaves
+  pub list-stores : lent.ListStores
+  pub nothing-else : lent.NothingElseIsWritten
 
 -- 2. Reading equals a definition written from the WMO Manual and document 01 on all files, and the
 -- Rust on every file (to 2^40 octets) on which it doesn't overflow and whose lines the tables hold.
@@ -53,8 +54,7 @@ pub record Demand2 : Type 0 where
   pub just-read-stands-next : pins.JustReadStandsNext
   pub lines-are-pinned : pins.LinesArePinned
   pub a-line-for-each-7 : pins.ALineForEach7
-  -- a walk is refused by 1 to 14, or ends clean, exactly when 01's rows say so; so is one read, one
-  -- judgement, a bare list of section numbers
+  -- a walk, one read, one judgement, a bare list: each answer exactly when 01's rows say so
   pub walk-refuses : exactly.WalkRefusedExactlyWhen
   pub walk-ends-clean : exactly.WalkCleanExactlyWhen
   pub one-step : OneStepExactlyWhen
@@ -79,6 +79,7 @@ pub record Demand2 : Type 0 where
   -- a copy is refused by 1, 19 or the walk's refusals, or written, exactly when 01 says
   pub copy-refuses : CopyRefusedExactlyWhen
   pub copy-written : CopyWrittenExactlyWhen
+  pub inventory : TextInventory  -- 02, Ticket 1: what it says, each answer, that it reads back
   -- a plan is refused by 15 to 19, or taken, exactly when 01 says, and what is written reads back
   pub plan-refused : plan.PlanRefusedExactlyWhen
   pub plan-taken : plan.PlanTakenExactlyWhen
@@ -99,7 +100,7 @@ pub record Demand2 : Type 0 where
 -- answer; on a clean walk the same public copy, which walks to that answer and differs from its
 -- file only in values octets and octets outside every message.
 pub record Demand3 : Type 0 where
-  -- sections, lines, counts and end with any tables, decoded fields, the public copy and its call
+  -- sections, lines, counts, end with any tables, decoded fields, inventory, public copy, calls
   pub equal-files : (f g : List ℕ) → Alike licensed f g → One licensed f g
   -- so do the walk in numbers, the C face's fields and the pull reader
   pub equal-numbers : (f g : List ℕ) → Alike licensed f g → (rows lines : List ℕ)

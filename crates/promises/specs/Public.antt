@@ -21,21 +21,32 @@ use Rattle.framing.proofs as framing
 use Rattle.order.proofs as order
 use Rattle.index.proofs as index
 use Rattle.reading.proofs as reading
+use Rattle.standing.proofs as standing
 use Rattle.walk.proofs as walk
+use Rattle.walk_numbers.proofs as walk_numbers
 use Rattle.pull.proofs as pull
 use Rattle.publish.proofs as publish
 use Rattle.writer.proofs as writer
+use Rattle.entries.proofs as entries
+use Rattle.inventory.proofs as inventory
+use Rattle.lists.proofs as lists
+use Rattle.requests.proofs as requests
 use Rattle.buttresk.proofs as buttresk
 use Rattle.framing.proofs.read.Cursor as Cursor
+use Rattle.framing.proofs.read.Section as Section
 use Rattle.order.proofs.Order as Order
 use Rattle.order.proofs.Place as Place
 use Rattle.index.proofs.line.Force as Force
 use Rattle.index.proofs.line.Line as Line
 use Rattle.index.proofs.refusal.Outcome as Outcome
 use Rattle.reading.proofs.Reading as Reading
+use Rattle.standing.proofs.Standing as Standing
 use Rattle.pull.proofs.Progress as Progress
 use Rattle.publish.proofs.Published as Published
 use Rattle.writer.proofs.Written as Written
+use Rattle.entries.proofs.Entry as Entry
+use Rattle.inventory.proofs.Inventoried as Inventoried
+use Rattle.lists.proofs.ListEnd as ListEnd
 use Rattle.octets.specs.BigEndian.{beAt}
 use Rattle.octets.specs.Signed.{signedOf}
 use Rattle.sections.specs.Kinds.{leastPayloadOf, valuesOf}
@@ -52,8 +63,10 @@ use Rattle.order.specs.Order.{judged, completes, isBetween, orderOf}
 use Rattle.index.specs.Lines.{opened, inForce, withSubmessage, lineOf, unlisted}
 use Rattle.index.specs.Numbers.{endOf, stored, unplaced}
 use Rattle.reading.specs.Reading.{start, seen}
+use Rattle.standing.specs.Put.{rowPut}
+use Rattle.standing.specs.Standing.{oneMore, passedRow}
 use Rattle.walk.specs.Tables.{walkOf}
-use Rattle.walk.specs.Numbers.{walkNumbers}
+use Rattle.walk_numbers.specs.Numbers.{walkNumbers}
 use Rattle.pull.specs.Calls.{firstOf, pullAt}
 use Rattle.pull.specs.declared.Progress.{Progress}
 use Rattle.pull.specs.declared.Pulled.{Pulled}
@@ -62,6 +75,12 @@ use Rattle.publish.specs.Copy.{copyOf}
 use Rattle.publish.specs.End.{copyEnd}
 use Rattle.writer.specs.Write.{writeOf}
 use Rattle.writer.specs.End.{writeEnd}
+use Rattle.entries.specs.Entries.{spelledOf}
+use Rattle.inventory.specs.Inventory.{inventoryOf}
+use Rattle.inventory.specs.End.{inventoryEnd}
+use Rattle.lists.specs.Lists.{readOf}
+use Rattle.lists.specs.End.{listEnd}
+use Rattle.requests.specs.Requests.{requestAt}
 use Rattle.buttresk.specs.Fields.{
   indicatorFields,
   identificationFields,
@@ -71,6 +90,7 @@ use Rattle.buttresk.specs.Fields.{
 }
 use Rattle.buttresk.specs.Product.{productFields}
 use Rattle.buttresk.specs.Stores.{fiveOf}
+use Rattle.buttresk.specs.Lists.{readAnswerOf}
 use Rattle.promises.specs.Contract.{SeenIs, Promised}
 use Rattle.promises.specs.Parameters.{
   value,
@@ -156,13 +176,25 @@ pub record PublicFunctions (M : Type 1) : Type 2 where
       reading.look.Symbol.routine (λ (file, (reading, _)). seen file reading)
   pub reading-glance : Gives M 1 (lent 0 tt u8 ∷ value Reading.the-row ∷ []) reading.glance.clauses
       reading.glance.Symbol.routine (λ (file, (reading, _)). seen file reading)
-  -- walk: the answer and the whole of both tables, with lines as structs and as numbers
+  -- standing: a count, where a walk stands behind a section, and the whole section table
+  pub standing-one-more : Gives M 0 (value u64 ∷ []) standing.one_more.clauses
+      standing.one_more.Symbol.routine (λ (n, _). oneMore n)
+  pub standing-passed-row :
+      Gives M 0 (value Standing.the-row ∷ value Section.the-row ∷ value Reading.the-row ∷ [])
+      standing.passed_row.clauses standing.passed_row.Symbol.routine
+      (λ (at, (section, (next, _))). passedRow at section next)
+  pub standing-put-row : Gives M 1 (lentMut 0 tt u64 ∷ value u64 ∷ value Section.the-row ∷ [])
+      standing.put_row.clauses standing.put_row.Symbol.routine
+      (λ (rows, (place, (section, _))). (tt, rowPut place section rows))
+  -- walk: the answer and the whole of both tables
   pub walk-walk : Gives M 3 (lent 0 tt u8 ∷ lentMut 1 tt u64 ∷ lentMut 2 tt Line.the-row ∷ [])
       walk.walk.clauses walk.walk.Symbol.routine
       (λ (file, (rows, (lines, _))). let tables = walkOf file rows lines in
       ((tables .answer, tables .rows), tables .lines))
-  pub walk-walk-numbers : Gives M 3 (lent 0 tt u8 ∷ lentMut 1 tt u64 ∷ lentMut 2 tt u64 ∷ [])
-      walk.walk_numbers.clauses walk.walk_numbers.Symbol.routine
+  -- walk_numbers: the same, with lines as numbers
+  pub walk-numbers-walk-numbers : Gives M 3
+      (lent 0 tt u8 ∷ lentMut 1 tt u64 ∷ lentMut 2 tt u64 ∷ [])
+      walk_numbers.walk_numbers.clauses walk_numbers.walk_numbers.Symbol.routine
       (λ (file, (rows, (lines, _))). let told = walkNumbers file rows lines in
       ((told .answer, told .rows), told .lines))
   -- pull: of a reader the content of its file and its progress are taken and seen; `new` holds the
@@ -201,7 +233,27 @@ pub record PublicFunctions (M : Type 1) : Type 2 where
       (wrote .answer, wrote .dest))
   pub writer-write-end : Gives M 0 (value Written.the-row ∷ []) writer.write_end.clauses
       writer.write_end.Symbol.routine (λ (answer, _). writeEnd answer)
-  -- buttresk, the C face: the walk in numbers, the copy and the message, the fields
+  -- entries, inventory, lists: an entry's line; the answer and the whole buffer; the answer and the
+  -- whole table
+  pub entries-spell : Gives M 0 (value Entry.the-row ∷ []) entries.spell.clauses
+      entries.spell.Symbol.routine (λ (entry, _). spelledOf entry)
+  pub inventory-inventory : Gives M 2 (lent 0 tt u8 ∷ lentMut 1 tt u8 ∷ [])
+      inventory.inventory.clauses inventory.inventory.Symbol.routine
+      (λ (file, (text, _)). let wrote = inventoryOf file text in (wrote .answer, wrote .text))
+  pub inventory-inventory-end : Gives M 0 (value Inventoried.the-row ∷ [])
+      inventory.inventory_end.clauses inventory.inventory_end.Symbol.routine
+      (λ (answer, _). inventoryEnd answer)
+  pub lists-read-list : Gives M 2 (lent 0 tt u8 ∷ lentMut 1 tt u64 ∷ []) lists.read_list.clauses
+      lists.read_list.Symbol.routine (λ (text, (table, _)). let stored = readOf text table in
+      (stored .answer, stored .table))
+  pub lists-list-end : Gives M 0 (value ListEnd.the-row ∷ []) lists.list_end.clauses
+      lists.list_end.Symbol.routine (λ (end, _). listEnd end)
+  -- requests: the request at a place of an input
+  pub requests-request-at : Gives M 1 (lent 0 tt u8 ∷ value usize ∷ [])
+      requests.request_at.clauses requests.request_at.Symbol.routine
+      (λ (input, (at, _)). requestAt input at)
+  -- buttresk, the C face: the walk in numbers, the copy, the message, the inventory, a list, the
+  -- fields
   pub buttresk-walk : Gives M 3 (lent 0 tt u8 ∷ lentMut 1 tt u64 ∷ lentMut 2 tt u64 ∷ [])
       buttresk.buttresk_walk.clauses buttresk.buttresk_walk.Symbol.routine
       (λ (file, (rows, (lines, _))). let told = walkNumbers file rows lines in
@@ -216,6 +268,14 @@ pub record PublicFunctions (M : Type 1) : Type 2 where
       (λ (discipline, (reserved₁, (reserved₂, (plan, (store, (dest, _)))))).
       let wrote = writeOf discipline reserved₁ reserved₂ plan store dest in
       (fiveOf (writeEnd (wrote .answer)), wrote .dest))
+  pub buttresk-inventory : Gives M 2 (lent 0 tt u8 ∷ lentMut 1 tt u8 ∷ [])
+      buttresk.buttresk_inventory.clauses buttresk.buttresk_inventory.Symbol.routine
+      (λ (file, (text, _)). let wrote = inventoryOf file text in
+      (fiveOf (inventoryEnd (wrote .answer)), wrote .text))
+  pub buttresk-read-list : Gives M 2 (lent 0 tt u8 ∷ lentMut 1 tt u64 ∷ [])
+      buttresk.buttresk_read_list.clauses buttresk.buttresk_read_list.Symbol.routine
+      (λ (text, (table, _)). let stored = readOf text table in
+      (readAnswerOf (stored .answer), stored .table))
   pub buttresk-indicator : Gives M 1 (lent 0 tt u8 ∷ []) buttresk.buttresk_indicator.clauses
       buttresk.buttresk_indicator.Symbol.routine
       (λ (section, _). indicatorFields (indicatorOf section))

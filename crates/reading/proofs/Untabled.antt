@@ -1,13 +1,15 @@
 -- The walk where no table is lent, over what is seen: a section is passed, or the walk ends. For every loop over `look` without tables.
 use mathlib.Core.Path.{_≡_, refl, ap, _∙_}
 use mathlib.Core.Bool.{Bool, true, false}
-use mathlib.Core.List.{List, [], _∷_}
+use mathlib.Core.List.{List, [], _∷_, _++_}
 use Prim.Native.Nat.{ℕ, _+_, _-_, _≤_}
 use native.Mathlib.Omega.{arith}
 use lib.Dec.{leb}
 use lib.ListN.{length}
 use borrow.Author.Tests.{lt-leb, le-ltb}
-use Rattle.order.specs.Order.{completes, isBetween}
+use Rattle.order.specs.Order.{judged, completes, isBetween}
+use Rattle.order.specs.declared.Order.{Order}
+use Rattle.order.specs.declared.Judged.the-variants as order
 use Rattle.order.proofs.Laws.{fits-open, closes-only}
 use Rattle.framing.proofs.Tests.{never-both}
 use Rattle.framing.specs.declared.read.Offset.{Offset}
@@ -16,7 +18,9 @@ use Rattle.framing.specs.declared.read.Cursor.{Cursor}
 use Rattle.framing.specs.declared.read.Fault.{Fault}
 use Rattle.framing.specs.Read as read
 use Rattle.framing.proofs.OneRead.{Reads, reads-as}
-use Rattle.index.specs.Lines.{place, opened, inForce}
+use Rattle.index.specs.Lines.{place, opened, inForce, lineOf}
+use Rattle.index.specs.declared.line.Force.{Force}
+use Rattle.index.specs.declared.line.Line.{Line}
 use Rattle.index.specs.declared.refusal.Refusal.the-variants as refusal
 use Rattle.index.specs.declared.refusal.Outcome.{Outcome}
 use Rattle.index.specs.declared.refusal.Outcome.the-variants.{Clean, Refused}
@@ -39,6 +43,16 @@ pub record Bounded (file : List ℕ) (r : Reached) (cursor : Cursor) : Type 0 wh
   pub lines : r .lines ≤ r .sections
   pub inside : r .sections ≤ length file
 
+-- what is in force behind a section that is passed, and the lines told because of it: none; that of a submessage whose message goes on; the
+-- last of its message
+pub data Moved (r : Reached) (s : Section) (next : Order) : Force → List Line → Type 0 where
+  on-within : completes (r .order) (s .number) ≡ false → judged (r .order) (s .number) ≡ order.Fits next
+      → Moved r s next (inForce (r .force) (s .number) (place (r .sections))) []
+  on-completing : completes (r .order) (s .number) ≡ true → judged (r .order) (s .number) ≡ order.Fits next
+      → Moved r s next (inForce (goneOn r .force) (s .number) (place (r .sections))) (lineOf (r .force) (place 0) ∷ [])
+  on-closing : judged (r .order) (s .number) ≡ order.Closes
+      → Moved r s next (opened (r .force .message + 1)) (lineOf (r .force) (place (r .sections)) ∷ [])
+
 -- a section is passed: the walk goes on with q
 pub record Passes (file : List ℕ) (r : Reached) (cursor : Cursor) (s : Section) (next : Reading) : Type 0 where
   pub q : Reached
@@ -50,6 +64,10 @@ pub record Passes (file : List ℕ) (r : Reached) (cursor : Cursor) (s : Section
   pub between : isBetween (next .order) ≡ true → s .number ≡ 8
   pub sections : toldOn file r cursor .sections ≡ s ∷ toldOn file q (next .cursor) .sections
   pub outcome : toldOn file r cursor .outcome ≡ toldOn file q (next .cursor) .outcome
+  pub lines : List Line
+  pub lined : q .lines ≡ r .lines + length lines
+  pub moved : Moved r s (next .order) (q .force) lines
+  pub lines-told : toldOn file r cursor .lines ≡ lines ++ toldOn file q (next .cursor) .lines
 
 -- it ends with this outcome
 pub record Ends (told : Told) (o : Outcome) : Type 0 where
@@ -97,6 +115,10 @@ module _ (file : List ℕ) (fits : length file ≤ mostOctets) (r : Reached) (cu
           between = λ b. absurd (never-both b (fits-open (r .order) (s .number) (passes-fits file (reading cursor (r .order)) e)));
           sections = ap (λ (t : Told). t .sections) (tells e) ∙ rw (c, lines, rows);
           outcome = ap (λ (t : Told). t .outcome) (tells e) ∙ rw (c, lines, rows);
+          lines = lineOf (r .force) (place 0) ∷ [];
+          lined = refl;
+          moved = on-completing c (passes-fits file (reading cursor (r .order)) e);
+          lines-told = ap (λ (t : Told). t .lines) (tells e) ∙ rw (c, lines, rows);
         }
     passing false c e =
         record {
@@ -116,6 +138,10 @@ module _ (file : List ℕ) (fits : length file ≤ mostOctets) (r : Reached) (cu
           between = λ b. absurd (never-both b (fits-open (r .order) (s .number) (passes-fits file (reading cursor (r .order)) e)));
           sections = ap (λ (t : Told). t .sections) (tells e) ∙ rw (c, rows);
           outcome = ap (λ (t : Told). t .outcome) (tells e) ∙ rw (c, rows);
+          lines = [];
+          lined = omega arith;
+          moved = on-within c (passes-fits file (reading cursor (r .order)) e);
+          lines-told = ap (λ (t : Told). t .lines) (tells e) ∙ rw (c, rows);
         }
 
     closing-passes : Sees (seen.Closes s next) → Passes file r cursor s next
@@ -138,6 +164,10 @@ module _ (file : List ℕ) (fits : length file ≤ mostOctets) (r : Reached) (cu
           between = λ b. closes-only (r .order) (s .number) (closes-judged file (reading cursor (r .order)) e) .1;
           sections = ap (λ (t : Told). t .sections) (tells e) ∙ rw (rows, lines, closes-between file (reading cursor (r .order)) e);
           outcome = ap (λ (t : Told). t .outcome) (tells e) ∙ rw (rows, lines, closes-between file (reading cursor (r .order)) e);
+          lines = lineOf (r .force) (place (r .sections)) ∷ [];
+          lined = refl;
+          moved = on-closing (closes-judged file (reading cursor (r .order)) e);
+          lines-told = ap (λ (t : Told). t .lines) (tells e) ∙ rw (rows, lines, closes-between file (reading cursor (r .order)) e);
         }
 
   pub passes : {s : Section} {next : Reading} → Sees (seen.Passes s next) → Passes file r cursor s next
@@ -150,6 +180,10 @@ module _ (file : List ℕ) (fits : length file ≤ mostOctets) (r : Reached) (cu
   pub clean : Sees seen.Clean → Ends (toldOn file r cursor) Clean
   unfolding toldBy
   clean e = rw (tells e) (record { none = refl; outcome = refl })
+
+  pub clean-lines : Sees seen.Clean → toldOn file r cursor .lines ≡ []
+  unfolding toldBy
+  clean-lines e = rw (tells e)
 
   pub input-over : Sees seen.InputOver → Ends (toldOn file r cursor) (Refused refusal.InputOver (r .last .place) (r .last .section .offset))
   unfolding toldBy

@@ -1,14 +1,14 @@
--- Turns of which a row is all that comes, one after the other: what `step` keeps. A section that a turn passes had room for its row.
+-- Turns of which a row is all that comes, one after the other: what `step` keeps.
 use mathlib.Core.Path.{_≡_, refl, sym, ap, subst, _∙_}
-use mathlib.Core.Bool.{true, false}
+use mathlib.Core.Bool.{false}
 use mathlib.Core.List.{List}
-use Prim.Native.Nat.{ℕ, suc, _+_, _-_, _*_, _/_, _<_}
+use Prim.Native.Nat.{ℕ, suc, _-_, _<_}
 use native.Mathlib.Omega.{arith}
 use lib.Dec.{leb}
 use lib.ListN.{length}
-use borrow.Author.Tests.{lt-ltb, lt-leb, leb-false}
+use borrow.Author.Tests.{lt-leb, leb-false}
 use Rattle.framing.specs.declared.read.Section.{Section}
-use Rattle.framing.proofs.Tests.{by-test, never-both}
+use Rattle.framing.proofs.Tests.{by-test}
 use Rattle.order.specs.Order.{completes}
 use Rattle.order.specs.declared.Place.{Place}
 use Rattle.index.specs.Lines.{place, inForce}
@@ -21,24 +21,20 @@ use Rattle.reading.specs.declared.Seen.the-variants.{Passes, Closes, Misplaced,
 use Rattle.reading.proofs.Moves.{passes-stands, passes-kept}
 use Rattle.walk.specs.declared.lines.Only.{Only}
 use Rattle.walk.specs.declared.lines.Only.the-variants.{Row, More}
-use Rattle.walk.specs.declared.standing.Standing.{Standing}
+use Rattle.standing.specs.declared.Standing.{Standing}
 use Rattle.walk.specs.declared.tally.Tally.{Tally}
-use Rattle.walk.specs.Put.{putAt, rowOf}
-use Rattle.walk.specs.Standing.{forceIn, passedRow}
-use Rattle.walk.specs.Tables.{roomOf}
-use Rattle.walk.proofs.Put.{put-length}
+use Rattle.standing.specs.Put.{rowPut}
+use Rattle.standing.specs.Standing.{forceIn, passedRow}
+use Rattle.standing.specs.Tables.{roomOf}
+use Rattle.standing.proofs.Put.{row-length}
 use Rattle.walk.specs.Turns.{
   rowsAfter,
-  oneMore,
   freshOf,
   standingOf,
   resumedOf,
   passedOf,
   fittedOf,
   takenOf,
-  closedOf,
-  misplacedOf,
-  toldOf,
   bySeen,
   turnOf,
   rowOnly,
@@ -46,39 +42,6 @@ use Rattle.walk.specs.Turns.{
   stepsOf,
   stepOf,
 }
-
--- a count below the end has one more
-pub more : (n : ℕ) → n < 18446744073709551615 → oneMore n ≡ n + 1
-unfolding oneMore
-more n below = simp (lt-ltb n 18446744073709551615 below)
-
--- what a section that is passed had room for
-module _ (room : Room) where
-  abbrev InRoom : Tally → Type 0
-  InRoom t = t .passed ≡ true → t .last .place .0 < room .rows
-
-  fitted-room : (t : Tally) (s : Section) (next : Reading) → t .passed ≡ false → InRoom (fittedOf room t s next)
-  unfolding fittedOf
-  fitted-room t s next none =
-      by-test InRoom (leb (room .rows) (t .sections)) (λ e p. absurd (never-both p none)) λ e p. leb-false (room .rows) (t .sections) e
-
-  seen-room : (v : Seen) (t : Tally) → t .passed ≡ false → InRoom (bySeen v room t)
-  unfolding bySeen takenOf closedOf misplacedOf
-  seen-room (Passes s next) t none =
-      by-test InRoom (completes (t .reading .order) (s .number))
-      (λ c. by-test InRoom (leb (room .lines) (t .lines)) (λ e p. absurd (never-both p none)) λ e. fitted-room (toldOf t) s next none)
-      λ c. fitted-room t s next none
-  seen-room (Closes s next) t none =
-      by-test InRoom (leb (room .rows) (t .sections)) (λ e p. absurd (never-both p none)) λ e.
-      by-test InRoom (leb (room .lines) (t .lines)) (λ f p. absurd (never-both p none)) λ f p. leb-false (room .rows) (t .sections) e
-  seen-room (Misplaced s) t none =
-      by-test InRoom (completes (t .reading .order) (s .number))
-      (λ c. by-test InRoom (leb (room .lines) (t .lines)) (λ e p. absurd (never-both p none)) λ e p. absurd (never-both p none))
-      λ c p. absurd (never-both p none)
-  seen-room (NoGrid s) t none = λ p. absurd (never-both p none)
-  seen-room Clean t none = λ p. absurd (never-both p none)
-  seen-room InputOver t none = λ p. absurd (never-both p none)
-  seen-room (Unreadable fault offset) t none = λ p. absurd (never-both p none)
 
 -- a section passes, has room for its row and completes nothing
 pub record Alone (room : Room) (at : Standing) (v : Seen) (s : Section) (next : Reading) : Type 0 where
@@ -118,7 +81,7 @@ module _ (file : List ℕ) (room : Room) where
 
   goes-on : (most : ℕ) (t : Tally) (rows : List ℕ) {s : Section} {next : Reading} → OnlyRow t s next
       → stepsOf file room (suc most) t rows
-      ≡ stepsOf file room most (freshOf (passedOf (freshOf t) s next)) (putAt (t .sections * 3) (rowOf s) rows)
+      ≡ stepsOf file room most (freshOf (passedOf (freshOf t) s next)) (rowPut (t .sections) s rows)
   unfolding stepsOf rowsAfter
   goes-on most t rows e = rw (e, row-turn t e)
 
@@ -169,12 +132,6 @@ module _ {file rows₀ : List ℕ} {lines : ℕ} {room : Room} {before : Tally} 
     what : Alone room at (seen file (at .reading)) s next
     what = alone room at (seen file (at .reading)) (l .is)
 
-    pub free : at .sections < length rows₀ / 3
-    free = subst (λ (r : Room). at .sections < r .rows) (so-far .room-is) (what .free)
-
-    pub in-rows : at .sections < length rows / 3
-    in-rows = subst (λ (n : ℕ). at .sections < n / 3) (sym (so-far .same-rows)) free
-
     pub kept-number : s .number < 8
     kept-number = passes-kept file (at .reading) (what .sees)
 
@@ -183,23 +140,23 @@ module _ {file rows₀ : List ℕ} {lines : ℕ} {room : Room} {before : Tally} 
         let stands = passes-stands file (at .reading) (what .sees) in
         omega (arith, stands .inside, stands .forward, stands .later)
 
-    pub goes : {at′ : Standing} {local′ : LocalUsePlace} {places′ : List Place} {rows′ : List ℕ} → at .sections < 18446744073709551615
+    pub goes : {at′ : Standing} {local′ : LocalUsePlace} {places′ : List Place} {rows′ : List ℕ}
         → inForce (forceIn at local places) (s .number) (place (at .sections)) ≡ forceIn at local′ places′
-        → at′ ≡ passedRow at s next → rows′ ≡ putAt (at .sections * 3) (rowOf s) rows
+        → at′ ≡ passedRow at s next → rows′ ≡ rowPut (at .sections) s rows
         → Stepping file rows₀ lines room before at′ local′ places′ rows′
-    goes {local′ = local′} {places′ = places′} below force same put =
+    goes {local′ = local′} {places′ = places′} force same put =
         rw (same, put)
         (record {
           most = so-far .most - 1;
           enough = omega (arith, so-far .enough, falls);
           comes = next-is ∙ sym (goes-on file room (so-far .most - 1) (resumedOf before at local places) rows (l .is)) ∙ comes;
           room-is = so-far .room-is;
-          same-rows = put-length (at .sections * 3) (rowOf s) rows (omega (arith, in-rows)) ∙ so-far .same-rows;
+          same-rows = row-length (at .sections) s rows ∙ so-far .same-rows;
         })
       where
-        next-is : stepsOf file room (so-far .most - 1) (resumedOf before (passedRow at s next) local′ places′) (putAt (at .sections * 3) (rowOf s) rows)
-            ≡ stepsOf file room (so-far .most - 1) (freshOf (passedOf (freshOf (resumedOf before at local places)) s next)) (putAt (at .sections * 3) (rowOf s) rows)
-        next-is = rw (more (at .sections) below, force)
+        next-is : stepsOf file room (so-far .most - 1) (resumedOf before (passedRow at s next) local′ places′) (rowPut (at .sections) s rows)
+            ≡ stepsOf file room (so-far .most - 1) (freshOf (passedOf (freshOf (resumedOf before at local places)) s next)) (rowPut (at .sections) s rows)
+        next-is = rw force
 
   -- the turn behind them
   pub record Last (r : Tally) : Type 0 where
@@ -211,12 +168,6 @@ module _ {file rows₀ : List ℕ} {lines : ℕ} {room : Room} {before : Tally} 
   last-is e f g h k = record { more-than = told e f g; is = k ∙ rw (h, e) }
 
   module _ {r : Tally} (l : Last r) where
-    pub has-room : r .passed ≡ true → r .last .place .0 < length rows / 3
-    has-room =
-        rw (so-far .same-rows)
-        (subst (λ (q : Room). r .passed ≡ true → r .last .place .0 < q .rows) (so-far .room-is)
-        (rw (l .is) (seen-room room (seen file (at .reading)) (resumedOf before at local places) refl)))
-
     pub done : {rows′ : List ℕ} → rows′ ≡ rowsAfter (r .passed) (r .last) rows
         → (r ≡ stepOf file lines before rows₀ .tally) × (rows′ ≡ stepOf file lines before rows₀ .rows)
     unfolding turnOf

@@ -22,17 +22,19 @@ use Rattle.index.specs.declared.refusal.Outcome.the-variants as outcome
 use Rattle.index.specs.declared.listed.Listed.{Listed}
 use Rattle.index.specs.Bounds.{mostOctets}
 use Rattle.index.specs.declared.bounds.Room.{Room}
-use Rattle.index.specs.Walk.{Reached, walked}
+use Rattle.index.specs.Walk.{Reached}
 use Rattle.reading.specs.Reading.{seen}
 use Rattle.reading.specs.declared.Reading.{Reading}
 use Rattle.reading.specs.declared.Seen.{Seen}
 use Rattle.reading.specs.declared.Seen.the-variants.{Passes, Closes, Misplaced, NoGrid, Clean, InputOver, Unreadable}
 use Rattle.reading.proofs.Moves.{passes-stands, closes-stands}
-use Rattle.walk.specs.Tables.{roomOf, storedOver, walkOf}
+use Rattle.standing.specs.Standing.{oneMore}
+use Rattle.standing.specs.Tables.{roomOf, storedOver}
+use Rattle.walk.specs.Tables.{walkOf}
+use Rattle.walk.specs.declared.lines.Answer.{Answer}
 use Rattle.walk.specs.Turns.{
   rowsAfter,
   linesAfter,
-  oneMore,
   freshOf,
   standingOf,
   endedOf,
@@ -57,11 +59,12 @@ use Rattle.walk.specs.Turns.{
 use Rattle.walk.specs.declared.lines.Only.{Only}
 use Rattle.walk.specs.declared.lines.Only.the-variants.{Row, More}
 use Rattle.walk.specs.declared.tally.Tally.{Tally}
-use Rattle.walk.specs.Put.{putAt}
-use Rattle.walk.proofs.Put.{put-one}
-use Rattle.walk.proofs.Steps.{more, row-turn}
-use Rattle.walk.proofs.Lent as lent
-use Rattle.walk.proofs.Lent.{encoded, Out, result}
+use Rattle.standing.specs.Put.{putAt}
+use Rattle.standing.proofs.Put.{put-one, row-there}
+use Rattle.standing.proofs.Passed.{more}
+use Rattle.standing.proofs.Lent as lent
+use Rattle.standing.proofs.Lent.{encoded, Out, result}
+use Rattle.walk.proofs.Steps.{row-turn}
 
 -- a line is one element of its table
 abbrev pub one : Line → List Line
@@ -83,11 +86,11 @@ row-none : (s : Listed) (rows : List ℕ) → rowsAfter false s rows ≡ rows
 unfolding rowsAfter
 row-none s rows = refl
 
-row-put : (s : Listed) (rows : List ℕ)
+row-put : (s : Listed) (rows : List ℕ) → s .place .0 < length rows / 3
     → rowsAfter true s rows
     ≡ putAt (s .place .0 * 3) (s .section .number ∷ s .section .offset .0 ∷ s .section .length ∷ []) rows
 unfolding rowsAfter
-row-put s rows = refl
+row-put s rows free = row-there (s .place .0) (s .section) rows free
 
 line-none : (slot : ℕ) (l : Line) (lines : List Line) → linesAfter false slot l lines ≡ lines
 unfolding linesAfter
@@ -121,17 +124,18 @@ module _ (file rows₀ : List ℕ) (lines₀ : List Line) where
     pub rows : now₁ ≡ walkOf file rows₀ lines₀ .rows
     pub lines : now₂ ≡ walkOf file rows₀ lines₀ .lines
 
-  lines-are : meant .lines ≡ storedOver (walked (roomOf (length rows₀) (length lines₀)) file .lines) lines₀
-  lines-are = lent.lines-meant 1 one wide file rows₀ lines₀ (length lines₀) (enough lines₀) ∙ ap (λ (l : List Line). storedOver l lines₀) (same-lines _)
+  -- the counts of a walk, and how it ended
+  abbrev answerIn : Out 1 one wide → Answer
+  answerIn o = record { sections = o .sections; submessages = o .submessages; messages = o .messages; outcome = o .outcome }
 
   pub ran : (t : Tally) (rows : List ℕ) (lines : List Line) → Held t rows lines → t .going ≡ false → Ran t rows lines
   unfolding walkOf
   ran t rows lines held ended =
-      let e = held .over ended in
+      let e = sym (held .over ended) ∙ lent.is-told 1 one wide file rows₀ lines₀ (length lines₀) (enough lines₀) in
       record {
-        answer = ap (λ (x : Out 1 one wide). x .answer) (sym e) ∙ lent.answer-meant 1 one wide file rows₀ lines₀ (length lines₀) (enough lines₀);
-        rows = ap (λ (x : Out 1 one wide). x .rows) (sym e) ∙ lent.rows-meant 1 one wide file rows₀ lines₀ (length lines₀) (enough lines₀);
-        lines = ap (λ (x : Out 1 one wide). x .lines) (sym e) ∙ lines-are;
+        answer = ap (λ (x : Out 1 one wide). answerIn x) e;
+        rows = ap (λ (x : Out 1 one wide). x .rows) e;
+        lines = ap (λ (x : Out 1 one wide). x .lines) e ∙ ap (λ (l : List Line). storedOver l lines₀) (same-lines _);
       }
 
   -- before the first turn
@@ -189,6 +193,11 @@ module _ (file rows₀ : List ℕ) (lines₀ : List Line) where
     submessage-more : t .lines < length lines₀ → oneMore (t .force .submessage) ≡ t .force .submessage + 1
     submessage-more free = more (t .force .submessage) (omega (arith, kept .submessages))
 
+    row-stored : (s : Section) → t .sections < length rows₀ / 3
+        → rowsAfter true (record { place = place (t .sections); section = s }) rows
+        ≡ putAt (t .sections * 3) (s .number ∷ s .offset .0 ∷ s .length ∷ []) rows
+    row-stored s free = row-put (record { place = place (t .sections); section = s }) rows (rw (kept .same-rows) free)
+
     line-stored : (l : Line) → t .lines < length lines₀ → linesAfter true (t .lines) l lines ≡ putAt (t .lines * 1) (one l) lines
     line-stored l free = line-put (t .lines) l lines (omega (arith, kept .same-lines))
 
@@ -210,7 +219,7 @@ module _ (file rows₀ : List ℕ) (lines₀ : List Line) where
         λ left.
         let free : t .sections < length rows₀ / 3 = leb-false (length rows₀ / 3) (t .sections) left in
         goes (passedOf f s next) going
-        (rw (row-put (record { place = place (t .sections); section = s }) rows, line-none (t .slot) (t .line) lines, sections-more free)
+        (rw (row-stored s free, line-none (t .slot) (t .line) lines, sections-more free)
         (lent.passed 1 one wide file rows₀ lines₀ (length lines₀) (enough lines₀) kept (inForce (t .force) (s .number) (place (t .sections))) refl e c free))
         (moves e)
 
@@ -231,7 +240,7 @@ module _ (file rows₀ : List ℕ) (lines₀ : List Line) where
         let free : t .sections < length rows₀ / 3 = leb-false (length rows₀ / 3) (t .sections) left in
         goes (passedOf (toldOf f) s next) going
         (rw (
-          row-put (record { place = place (t .sections); section = s }) rows,
+          row-stored s free,
           line-stored line room-left,
           sections-more free,
           lines-more room-left,
@@ -260,7 +269,7 @@ module _ (file rows₀ : List ℕ) (lines₀ : List Line) where
         let room-left : t .lines < length lines₀ = leb-false (length lines₀) (t .lines) more-left in
         goes (shutOf f s next) going
         (rw (
-          row-put (record { place = place (t .sections); section = s }) rows,
+          row-stored s free,
           line-stored (lineOf (t .force) (place (t .sections))) room-left,
           sections-more free,
           lines-more room-left,

@@ -1,6 +1,6 @@
 -- Machinery: a turn of the loop that fills the lent tables, over what is seen at the reading, and
 -- the turns of a step.
-use Prim.Native.Nat.{ℕ, zero, suc, _+_, _*_}
+use Prim.Native.Nat.{ℕ, zero, suc}
 use mathlib.Core.Bool.{Bool, true, false}
 use mathlib.Core.List.{List}
 use lib.Dec.{ltb, leb}
@@ -35,27 +35,19 @@ use Rattle.reading.specs.declared.Seen.the-variants.{
 use Rattle.walk.specs.declared.lines.Answer.{Answer}
 use Rattle.walk.specs.declared.lines.Only.{Only}
 use Rattle.walk.specs.declared.lines.Only.the-variants.{Row, More}
-use Rattle.walk.specs.declared.standing.Standing.{Standing}
+use Rattle.standing.specs.declared.Standing.{Standing}
 use Rattle.walk.specs.declared.tally.Tally.{Tally}
-use Rattle.walk.specs.Standing.{forceIn}
-use Rattle.walk.specs.Put.{putAt, rowOf}
-use Rattle.walk.specs.Tables.{roomOf}
-
--- a section's row in the table, at its place
-abbrev pub rowAt : Listed → List ℕ → List ℕ
-rowAt s rows = putAt (s .place .0 * 3) (rowOf (s .section)) rows
+use Rattle.standing.specs.Standing.{oneMore, forceIn}
+use Rattle.standing.specs.Put.{rowPut}
+use Rattle.standing.specs.Tables.{roomOf}
 
 -- the section table after a turn
 unfoldable pub rowsAfter : Bool → Listed → List ℕ → List ℕ
-rowsAfter passed s rows = pick passed (rowAt s rows) rows
+rowsAfter passed s rows = pick passed (rowPut (s .place .0) (s .section) rows) rows
 
 -- the submessage table after a turn
 unfoldable pub linesAfter : Bool → ℕ → Line → List Line → List Line
 linesAfter due slot line lines = pick due (set lines slot line) lines
-
--- one more, of a count that no file brings to its end
-unfoldable pub oneMore : ℕ → ℕ
-oneMore n = pick (ltb n 18446744073709551615) (n + 1) n
 
 -- before the first section
 abbrev pub unstarted : Tally

@@ -1,15 +1,7 @@
 // The loop over the lent tables.
 ghost use mathlib.Core.Path.{_≡_};
-ghost use mathlib.Core.Bool.{true};
-ghost use Prim.Native.Nat.{_/_, _<_};
-ghost use lib.ListN.{length};
 ghost use Rattle.walk.specs.Tables.{walkOf};
 ghost use Rattle.walk.specs.Turns.{rowsAfter, linesAfter, rowOnly, stepOf, concludedOf};
-use crate::rows::ROW;
-use crate::rows::put_row;
-use crate::standing::Standing;
-use crate::standing::completes;
-use crate::standing::passed_row;
 use crate::tally::Tally;
 use crate::tally::begin;
 use crate::tally::resumed;
@@ -22,10 +14,15 @@ use index::LocalUsePlace;
 use index::Outcome;
 use index::Room;
 use order::Place;
+use order::completing;
 use reading::Reading;
 use reading::Seen;
 use reading::glance;
 use sections::LocalUse;
+use standing::ROW;
+use standing::Standing;
+use standing::passed_row;
+use standing::put_row;
 
 // How many lines stand in each table, how many messages were closed, and how the walk ended.
 pub struct Answer {
@@ -37,7 +34,6 @@ pub struct Answer {
 
 // Stores the row of a section, if it was passed.
 fn put_passed(rows: &mut [u64], passed: bool, s: Listed)
-    requires { ⌜ (passed ≡ true → s .place .0 < length (now rows) / 3) ⌝ }
     ensures { λ _. ⌜ now (rows .exit) ≡ rowsAfter passed s (now (rows .entry)) ⌝ }
 {
     if passed {
@@ -62,7 +58,9 @@ fn row_only(room: Room, at: Standing, seen: Seen) -> Only
             if room.rows <= at.sections {
                 return Only::More;
             }
-            if completes(at, section) {
+            let reading = at.reading;
+            let order = reading.order;
+            if completing(order, section.number) {
                 return Only::More;
             }
             Only::Row(section, next)

@@ -1,11 +1,9 @@
 // A turn of the walk, by value: what is reached, and what is due for the lent tables.
 ghost use mathlib.Core.Path.{_≡_};
 ghost use lib.ListN.{length};
-ghost use Rattle.walk.specs.Turns.{oneMore, unstarted, begunOf, endedOf, refusedOf};
+ghost use Rattle.walk.specs.Turns.{unstarted, begunOf, endedOf, refusedOf};
 ghost use Rattle.walk.specs.Turns.{standingOf, resumedOf, toldOf, passedOf, fittedOf};
 ghost use Rattle.walk.specs.Turns.{takenOf, closedOf, misplacedOf, bySeen};
-use crate::standing::KEPT;
-use crate::standing::Standing;
 use framing::Offset;
 use framing::Section;
 use index::Force;
@@ -26,6 +24,9 @@ use order::completing;
 use reading::Reading;
 use reading::Seen;
 use reading::start;
+use standing::KEPT;
+use standing::Standing;
+use standing::one_more;
 
 pub(crate) struct Tally {
     // Where the next section is looked for.
@@ -44,16 +45,6 @@ pub(crate) struct Tally {
     // Whether the walk goes on; if not, how it ended.
     pub going: bool,
     pub outcome: Outcome,
-}
-
-// One more, of a count that no file brings to its end.
-fn one_more(n: u64) -> u64
-    ensures { λ r. ⌜ r ≡ oneMore n ⌝ }
-{
-    if n < u64::MAX {
-        return n + 1;
-    }
-    n
 }
 
 // Before the first section.

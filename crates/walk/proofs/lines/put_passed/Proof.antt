@@ -5,11 +5,6 @@ use Rattle.walk.specs.Turns.{rowsAfter}
 use Rattle.walk.proofs.lines.put_passed.Statement.{statement}
 use Rattle.walk.proofs.lines.put_passed.Tie as tie
 
-put-row-requires : tie.Need-put-row-requires
-put-row-requires c κs =
-    let taken = c .before .before .before in
-    taken .before .before .pre (taken .if1 .taken)
-
 same-length : tie.Need-same-length
 same-length c = search needs
 
@@ -24,4 +19,4 @@ unfolding rowsAfter
 returns-2 c = rw (c .if1 .left)
 
 pub put-passed-spec : {M : Type 1} → statement M
-put-passed-spec = tie.close (tie.spec put-row-requires same-length returns returns-2)
+put-passed-spec = tie.close (tie.spec (λ c κs. search needs) same-length returns returns-2)

@@ -12,7 +12,7 @@ use Rattle.reading.specs.declared.Seen.the-variants.{Passes, Closes, Misplaced,
 use Rattle.reading.proofs.Seen.{the-type}
 use Rattle.walk.specs.Turns.{rowOnly}
 use Rattle.walk.specs.declared.lines.Only.the-variants.{More}
-use Rattle.walk.specs.declared.standing.Standing.{Standing}
+use Rattle.standing.specs.declared.Standing.{Standing}
 use Rattle.walk.proofs.lines.row_only.Statement.{statement}
 use Rattle.walk.proofs.lines.row_only.Tie as tie
 
@@ -37,14 +37,14 @@ returns c = rw (c .before .before .before .before .seen .given .1, le-leb _ _ (c
 returns-2 : tie.Need-returns-2
 unfolding rowOnly
 returns-2 c =
-    let left = c .before .before in
-    rw (left .before .before .before .before .seen .given .1, lt-leb _ _ (left .if1 .left), sym (c .before .completes .ensures) ∙ c .if2 .taken)
+    let left = c .before .before .before in
+    rw (left .before .before .before .before .seen .given .1, lt-leb _ _ (left .if1 .left), sym (c .before .completing .ensures) ∙ c .if2 .taken)
 
 returns-3 : tie.Need-returns-3
 unfolding rowOnly
 returns-3 c =
-    let left = c .before .before in
-    rw (left .before .before .before .before .seen .given .1, lt-leb _ _ (left .if1 .left), sym (c .before .completes .ensures) ∙ c .if2 .left)
+    let left = c .before .before .before in
+    rw (left .before .before .before .before .seen .given .1, lt-leb _ _ (left .if1 .left), sym (c .before .completing .ensures) ∙ c .if2 .left)
 
 returns-4 : tie.Need-returns-4
 returns-4 c = elsewhere (c .before .args .room) (c .before .args .at) (c .before .args .seen) (c .match .keys2)

@@ -1,11 +1,11 @@
 -- `step` meets its contract: what is to come from each section on is the whole step.
 use mathlib.Core.Path.{ap}
-use Prim.Native.Nat.{_-_, _<_}
+use Prim.Native.Nat.{_-_}
 use native.Mathlib.Omega.{arith}
 use lib.ListN.{length}
 use borrow.Author.Needs.{needs}
-use Rattle.walk.specs.declared.standing.Standing.{Standing}
-use Rattle.walk.proofs.InNumbers.{in-force-local, in-force-kept}
+use Rattle.standing.specs.declared.Standing.{Standing}
+use Rattle.standing.proofs.Passed.{in-force-local, in-force-kept}
 use Rattle.walk.proofs.Steps as N
 use Rattle.walk.proofs.Steps.{Stepping}
 use Rattle.walk.proofs.lines.step.Statement.{statement}
@@ -28,20 +28,8 @@ row c =
     let asked = c .before .before in
     N.lone (turn-of c .loop .inv) (asked .before .glance .ensures) (asked .row-only .ensures) (c .only .given .1)
 
-below : (c : tie.After-only Inv-loop μ-loop) → turn-of c .loop .at .sections < 18446744073709551615
-below c =
-    let turn = turn-of c in
-    omega (arith, N.free (turn .loop .inv) (row c), turn .before .before .before .before .before .before .good)
-
 loop-holds : tie.Need-loop-holds Inv-loop μ-loop
 loop-holds c = rw (c .before .standing-of .ensures) (N.begins _ _ _ _)
-
-put-row-requires : tie.Need-put-row-requires Inv-loop μ-loop
-put-row-requires c κs = N.in-rows (turn-of (c .before .before) .loop .inv) (row (c .before .before))
-
-passed-row-requires : tie.Need-passed-row-requires Inv-loop μ-loop
-passed-row-requires c κs =
-    below (c .before .before .before .before .before)
 
 loop-less : tie.Need-loop-less Inv-loop μ-loop
 loop-less c =
@@ -52,7 +40,7 @@ loop-less c =
 loop-again : tie.Need-loop-again Inv-loop μ-loop
 loop-again c =
     let only = c .before .before .before .before .before .before .before .before in
-    N.goes (turn-of only .loop .inv) (row only) (below only)
+    N.goes (turn-of only .loop .inv) (row only)
     (in-force-local (turn-of only .loop .at) _ _ _ _ (c .if1 .taken)) (c .before .before .passed-row .ensures)
     (c .before .before .before .before .before .put-row .ensures)
 
@@ -75,7 +63,7 @@ loop-less-2 c =
 loop-again-2 : tie.Need-loop-again-2 Inv-loop μ-loop
 loop-again-2 c =
     let only = c .before .before .before .before .before .before .before .before in
-    N.goes (turn-of only .loop .inv) (row only) (below only)
+    N.goes (turn-of only .loop .inv) (row only)
     (in-force-kept (turn-of only .loop .at) _ _ _ _ (c .if1 .left) (N.kept-number (turn-of only .loop .inv) (row only))) (c .before .before .passed-row .ensures)
     (c .before .before .before .before .before .put-row .ensures)
 
@@ -88,11 +76,6 @@ made c =
     let asked = told .before .before in
     N.last-is (asked .before .before .loop .inv) (asked .before .glance .ensures) (asked .row-only .ensures) (told .enum-told .given .1)
     (c .before .resumed .ensures) (c .turn .ensures)
-
-put-passed-requires : tie.Need-put-passed-requires Inv-loop μ-loop
-put-passed-requires c κs =
-    let turned = c .before .before in
-    N.has-room (turned .before .before .before .before .before .before .loop .inv) (made turned)
 
 same-length : tie.Need-same-length Inv-loop μ-loop
 same-length c =
@@ -114,8 +97,8 @@ step-spec =
     (λ c κs. search needs)
     (λ c κs. search needs)
     (λ c. search needs)
-    put-row-requires
-    passed-row-requires
+    (λ c κs. search needs)
+    (λ c κs. search needs)
     loop-less
     loop-again
     mul-places
@@ -125,6 +108,6 @@ step-spec =
     (λ c. search needs)
     (λ c κs. search needs)
     (λ c κs. search needs)
-    put-passed-requires
+    (λ c κs. search needs)
     same-length
     returns)

@@ -1,0 +1,91 @@
+-- `replaying::place_after` meets its contract: a request that is not bad says where the next starts.
+use borrow.Author.Needs.{needs}
+use Rattle.requests.specs.Requests.{placeAfter}
+use Rattle.replaying.proofs.place_after.Statement.{statement}
+use Rattle.replaying.proofs.place_after.Tie as tie
+
+enum-known-request : tie.Need-enum-known-request
+enum-known-request c = search needs
+
+enum-known-request-2 : tie.Need-enum-known-request-2
+enum-known-request-2 c = search needs
+
+enum-known-request-3 : tie.Need-enum-known-request-3
+enum-known-request-3 c = search needs
+
+enum-known-request-4 : tie.Need-enum-known-request-4
+enum-known-request-4 c = search needs
+
+enum-known-request-5 : tie.Need-enum-known-request-5
+enum-known-request-5 c = search needs
+
+enum-known-request-6 : tie.Need-enum-known-request-6
+enum-known-request-6 c = search needs
+
+enum-known-request-7 : tie.Need-enum-known-request-7
+enum-known-request-7 c = search needs
+
+enum-known-request-8 : tie.Need-enum-known-request-8
+enum-known-request-8 c = search needs
+
+enum-told : tie.Need-enum-told
+enum-told c = search needs
+
+returns : tie.Need-returns
+unfolding placeAfter
+returns c = rw (c .before .request .given .1)
+
+returns-2 : tie.Need-returns-2
+unfolding placeAfter
+returns-2 c = rw (c .before .request2 .given .1)
+
+returns-3 : tie.Need-returns-3
+unfolding placeAfter
+returns-3 c = rw (c .before .request3 .given .1)
+
+returns-4 : tie.Need-returns-4
+unfolding placeAfter
+returns-4 c = rw (c .before .request4 .given .1)
+
+returns-5 : tie.Need-returns-5
+unfolding placeAfter
+returns-5 c = rw (c .before .request5 .given .1)
+
+returns-6 : tie.Need-returns-6
+unfolding placeAfter
+returns-6 c = rw (c .before .request6 .given .1)
+
+returns-7 : tie.Need-returns-7
+unfolding placeAfter
+returns-7 c = rw (c .before .request7 .given .1)
+
+returns-8 : tie.Need-returns-8
+unfolding placeAfter
+returns-8 c = rw (c .before .request8 .given .1)
+
+returns-9 : tie.Need-returns-9
+unfolding placeAfter
+returns-9 c = rw (c .enum-told .given .1)
+
+pub place-after-spec : {M : Type 1} → statement M
+place-after-spec =
+    tie.close
+    (tie.spec
+    enum-known-request
+    enum-known-request-2
+    enum-known-request-3
+    enum-known-request-4
+    enum-known-request-5
+    enum-known-request-6
+    enum-known-request-7
+    enum-known-request-8
+    enum-told
+    returns
+    returns-2
+    returns-3
+    returns-4
+    returns-5
+    returns-6
+    returns-7
+    returns-8
+    returns-9)

@@ -1,0 +1,2 @@
+-- What the contracts of `requests` cite: what a request is.
+pub mod Requests

@@ -1,0 +1,69 @@
+// What every walk in lent tables keeps: where it stands, by value, and the rows of the sections
+// that it passed. What is in force is not here: its places are written one by one, and a copy of
+// all eight at each section would cost half as much as the rest.
+ghost use mathlib.Core.Path.{_≡_};
+ghost use Rattle.standing.specs.Put.{rowPut};
+ghost use Rattle.standing.specs.Standing.{oneMore, passedRow};
+use framing::Section;
+use index::Listed;
+use order::Place;
+use reading::Reading;
+
+// Numbers of a row: section number, offset, length.
+pub const ROW: usize = 3;
+
+// Section numbers that a place is kept for: all but the end section's.
+pub const KEPT: usize = 8;
+
+pub struct Standing {
+    // Where the next section is looked for.
+    pub reading: Reading,
+    // So many sections and lines are told.
+    pub sections: u64,
+    pub lines: u64,
+    // The message and the submessage in hand, each counted from 0.
+    pub message: u64,
+    pub submessage: u64,
+    // The section passed last.
+    pub last: Listed,
+}
+
+// One more, of a count that no file brings to its end.
+pub fn one_more(n: u64) -> u64
+    ensures { λ r. ⌜ r ≡ oneMore n ⌝ }
+{
+    if n < u64::MAX {
+        return n + 1;
+    }
+    n
+}
+
+// A section is passed.
+pub fn passed_row(at: Standing, section: Section, next: Reading) -> Standing
+    ensures { λ r. ⌜ r ≡ passedRow at section next ⌝ }
+{
+    let place = Place(at.sections);
+    Standing {
+        reading: next,
+        sections: one_more(at.sections),
+        lines: at.lines,
+        message: at.message,
+        submessage: at.submessage,
+        last: Listed { place, section },
+    }
+}
+
+// Stores a section's row at its place, where the table has room for it.
+pub fn put_row(rows: &mut [u64], place: u64, section: Section)
+    ensures { λ _. ⌜ now (rows .exit) ≡ rowPut place section (now (rows .entry)) ⌝ }
+{
+    let room = (rows.len() / ROW) as u64;
+    if room <= place {
+        return;
+    }
+    let offset = section.offset;
+    let i = place as usize * ROW;
+    rows[i] = section.number;
+    rows[i + 1] = offset.0;
+    rows[i + 2] = section.length;
+}

@@ -1,9 +1,0 @@
--- `unbegun` meets its contract: its callees' answers are put together.
-use borrow.Author.Needs.{needs}
-use Rattle.walk.proofs.standing.unbegun.Statement.{statement}
-use Rattle.walk.proofs.standing.unbegun.Tie as tie
-
-pub unbegun-spec : {M : Type 1} → statement M
-unbegun-spec =
-    tie.close
-    (tie.spec (λ c κs. search needs) (λ c κs. search needs) (λ c. rw (c .unlisted .ensures, c .before .start .ensures)))

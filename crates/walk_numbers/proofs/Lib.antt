@@ -1,0 +1,2 @@
+-- Machinery of the crate's proofs: a turn of the loop with lent numbers.
+pub mod InNumbers
