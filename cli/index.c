@@ -30,17 +30,27 @@ static void print_index(const struct tables *t)
     printf("end %" PRIu64 " %" PRIu64 " %" PRIu64 " %" PRIu64 "\n", a->outcome, a->place, a->offset, a->detail);
 }
 
+/* Who re-requests a cut file has to know where its rest starts; the detail says how many octets that
+   is at least. */
+static enum status say_ended(const struct source *source, const struct buttresk_walk_answer *a)
+{
+    if (a->outcome == BUTTRESK_DONE) {
+        return CLEAN;
+    }
+    enum status status = say_refused(source->name, a->outcome, a->place, a->offset, a->detail);
+    if (a->outcome == BUTTRESK_CUT) {
+        say_rest_starts(source->name, source->size);
+    }
+    return status;
+}
+
 static enum status print_walked(const struct source *source, const struct tables *tables, bool head)
 {
-    const struct buttresk_walk_answer *a = &tables->answer;
     if (head) {
         print_file_line(source->name);
     }
     print_index(tables);
-    if (!output_taken()) {
-        return FAILED;
-    }
-    return a->outcome == BUTTRESK_DONE ? CLEAN : say_refused(source->name, a->outcome, a->place, a->offset, a->detail);
+    return output_taken() ? say_ended(source, &tables->answer) : FAILED;
 }
 
 enum status index_file(const char *name, bool head)

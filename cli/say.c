@@ -4,10 +4,13 @@
 #include <errno.h>
 #include <string.h>
 
+#include "buttresk.h"
+
 struct refusal {
     const char *name;
     const char *means;
-    const char *detail; /* what the detail is; null where it is 0 and says nothing */
+    /* what the detail is; null where it is 0 and says nothing, and of cut, whose detail has words of its own */
+    const char *detail;
 };
 
 static const struct refusal refusals[] = {
@@ -83,15 +86,35 @@ enum status say_system(const char *name)
     return say_failed(name, strerror(errno));
 }
 
+/* The library never counts 0 here: of a file that is cut an octet is missing at least. */
+static void put_missing(uint64_t octets)
+{
+    fprintf(stderr, " (%ju %s missing)", (uintmax_t)octets, octets == 1 ? "octet is" : "octets are");
+}
+
+static void put_detail(uint64_t outcome, uint64_t detail)
+{
+    const char *is = refusal_of(outcome)->detail;
+    if (outcome == BUTTRESK_CUT) {
+        put_missing(detail);
+    } else if (is != NULL) {
+        fprintf(stderr, " (%s)", is);
+    }
+}
+
 enum status say_refused(const char *name, uint64_t outcome, uint64_t place, uint64_t offset, uint64_t detail)
 {
     const struct refusal *refusal = refusal_of(outcome);
     start(name);
     fprintf(stderr, "refused by %ju (%s): %s; place %ju, offset %ju, detail %ju", (uintmax_t)outcome, refusal->name,
             refusal->means, (uintmax_t)place, (uintmax_t)offset, (uintmax_t)detail);
-    if (refusal->detail != NULL) {
-        fprintf(stderr, " (%s)", refusal->detail);
-    }
+    put_detail(outcome, detail);
     putc('\n', stderr);
     return REFUSED;
+}
+
+void say_rest_starts(const char *name, uint64_t octet)
+{
+    start(name);
+    fprintf(stderr, "a re-request has to start at octet %ju, counted from 0, where the file ends\n", (uintmax_t)octet);
 }

@@ -15,6 +15,10 @@ void put_name(FILE *to, const char *name);
 enum status say_failed(const char *name, const char *reason);
 enum status say_refused(const char *name, uint64_t outcome, uint64_t place, uint64_t offset, uint64_t detail);
 
+/* Of a file that is cut: the first octet that is missing. Not how many make it whole, since behind a
+   header its payload may be cut too. */
+void say_rest_starts(const char *name, uint64_t octet);
+
 /* The reason is the system's, from errno. */
 enum status say_system(const char *name);
 

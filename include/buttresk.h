@@ -42,7 +42,11 @@ extern "C" {
 enum buttresk_outcome {
     BUTTRESK_DONE = 0,                  /* a clean end; all that was to be written is written */
     BUTTRESK_FILE_TOO_LONG = 1,         /* the file is over 2^40 octets */
-    BUTTRESK_CUT = 2,                   /* 1 to 4 octets are left for a header, 1 to 3 for a section 8, or the payload of a section 1 to 6 is cut */
+    BUTTRESK_CUT = 2,                   /* 1 to 4 octets are left for a header, 1 to 3 for a section 8, or the payload of a section 1 to 6 is cut;
+                                           detail: how many octets are missing, 1 at least: 5 less those left in the file for a header, 4
+                                           less those left for a section 8, a payload's stated end less the file's length, and 1 for a
+                                           section 6 of length 5 that the file ends behind. It is not what makes the file whole: behind a
+                                           header its payload may be cut too, and further sections may be missing */
     BUTTRESK_OTHER_EDITION = 3,         /* the edition is not 2; detail: the edition */
     BUTTRESK_TOTAL_UNDER_16 = 4,        /* the total length of a message is under 16 */
     BUTTRESK_NOT_END_MARK = 5,          /* a section 8 is not "7777" */
@@ -50,7 +54,8 @@ enum buttresk_outcome {
     BUTTRESK_UNKNOWN_NUMBER = 7,        /* the number in a header is not 1 to 7; detail: the number */
     BUTTRESK_PAYLOAD_UNDER_LEAST = 8,   /* a payload is under its section's least; detail: the payload's size */
     BUTTRESK_LONGER_THAN_REST = 9,      /* a section is longer than what is left of its message; detail: the section's length */
-    BUTTRESK_INPUT_OVER = 10,           /* the file is over inside a message */
+    BUTTRESK_INPUT_OVER = 10,           /* the file is over inside a message, between two sections or in the payload of a section 7; how much is
+                                           missing is not told */
     BUTTRESK_MISPLACED = 11,            /* a section of this number can't come next; detail: the number */
     BUTTRESK_NO_GRID = 12,              /* a section 4 right after a section 1; detail: the number, 4 */
     BUTTRESK_SECTION_TABLE_FULL = 13,   /* a row is due, and the section table is full */

@@ -112,19 +112,21 @@ static void walks(void)
     r = walk(a.octets, 0, 0, 0);
     EXPECT(counted(r, 0, 0, 0) && ended(r, BUTTRESK_DONE, 0, 0, 0));
 
-    /* cut */
+    /* over before its section 8 */
     r = walk(a.octets, 82, ROWS, LINES);
     EXPECT(counted(r, 7, 0, 0) && ended(r, BUTTRESK_INPUT_OVER, 6, 77, 0));
-    r = walk(a.octets, 84, ROWS, LINES);
-    EXPECT(counted(r, 7, 0, 0) && ended(r, BUTTRESK_CUT, 7, 82, 0));
+}
 
-    /* a section 2, and a 4 right after 1 */
+/* a section 2, and a 4 right after 1 */
+static void walks_of_other_orders(void)
+{
+    struct file a = sample_a();
     struct file two = {.size = 0};
     add_start(&two, 92);
     add_section(&two, 1, 16);
     add_section(&two, 2, 1);
     add(&two, a.octets + 37, 49);
-    r = walk(two.octets, two.size, ROWS, LINES);
+    struct buttresk_walk_answer r = walk(two.octets, two.size, ROWS, LINES);
     EXPECT(counted(r, 8, 0, 0) && ended(r, BUTTRESK_SECTION_TABLE_FULL, 8, 88, 0));
     uint64_t more[9 * BUTTRESK_ROW];
     static const uint64_t two_line[BUTTRESK_LINE] = {0, 0, 1, 0, 1, 2, 3, 4, 5, 6, 7, 8};
@@ -168,6 +170,48 @@ static void copies(void)
     EXPECT(dest[0] == 0 && dest[1] == 'G' && dest[71] == 6 && b.octets[72] == 7 && dest[72] == 0 && dest[73] == 0 && dest[76] == 6);
 }
 
+/* By each function that walks a file: the place, the offset and the count of missing octets of one that is cut, and nothing written. */
+static void expect_cut(const uint8_t *octets, size_t size, uint64_t place, uint64_t offset, uint64_t missing)
+{
+    uint8_t dest[256];
+    memset(dest, 77, sizeof dest);
+    struct buttresk_walk_answer r = walk(octets, size, ROWS, LINES);
+    EXPECT(counted(r, place, 0, 0) && ended(r, BUTTRESK_CUT, place, offset, missing));
+    struct buttresk_store_answer s = buttresk_publish(octets, size, dest, sizeof dest);
+    EXPECT(s.outcome == BUTTRESK_CUT && s.place == place && s.offset == offset && s.detail == missing && s.written == 0 && dest[0] == 77);
+    s = buttresk_inventory(octets, size, dest, sizeof dest);
+    EXPECT(s.outcome == BUTTRESK_CUT && s.place == place && s.offset == offset && s.detail == missing && s.written == 0 && dest[0] == 77);
+}
+
+/* A's sections start at 0, 16, 37, 51, 60, 71, 77 and 82. */
+static void cuts(void)
+{
+    struct file a = sample_a();
+    /* a header: 5 less what is left */
+    expect_cut(a.octets, 78, 6, 77, 4);
+    expect_cut(a.octets, 40, 2, 37, 2);
+    expect_cut(a.octets, 81, 6, 77, 1);
+    /* a section 8: 4 less what is left */
+    expect_cut(a.octets, 83, 7, 82, 3);
+    expect_cut(a.octets, 84, 7, 82, 2);
+    expect_cut(a.octets, 85, 7, 82, 1);
+    /* a payload: its stated end, here 51, less the file's length */
+    expect_cut(a.octets, 42, 2, 37, 9);
+    expect_cut(a.octets, 45, 2, 37, 6);
+    expect_cut(a.octets, 50, 2, 37, 1);
+    /* a section 6 of length 5, whose stated end is the file's */
+    struct file bare = {.size = 0};
+    add(&bare, a.octets, 71);
+    add_section(&bare, 6, 0);
+    expect_cut(bare.octets, 76, 5, 71, 1);
+    /* the longest: 16 + 4,294,967,295 - 21 */
+    const uint8_t longest[5] = {255, 255, 255, 255, 1};
+    struct file one = {.size = 0};
+    add_start(&one, 21);
+    add(&one, longest, sizeof longest);
+    expect_cut(one.octets, 21, 1, 16, 4294967290);
+}
+
 static void writes(void)
 {
     struct file a = sample_a();
@@ -206,7 +250,7 @@ static void inventories(void)
     r = buttresk_inventory(a.octets, a.size, text, sizeof text);
     EXPECT(r.outcome == BUTTRESK_DONE && r.written == 34 && memcmp(text, line, 34) == 0 && text[34] == 99);
     r = buttresk_inventory(a.octets, 84, text, 0);
-    EXPECT(r.outcome == BUTTRESK_CUT && r.place == 7 && r.offset == 82 && r.written == 0);
+    EXPECT(r.outcome == BUTTRESK_CUT && r.place == 7 && r.offset == 82 && r.detail == 2 && r.written == 0);
     r = buttresk_inventory(a.octets, 0, text, 0);
     EXPECT(r.outcome == BUTTRESK_DONE && r.written == 0);
 }
@@ -295,7 +339,9 @@ static void products(void)
 int main(void)
 {
     walks();
+    walks_of_other_orders();
     copies();
+    cuts();
     writes();
     inventories();
     lists();

@@ -15,7 +15,7 @@ from pathlib import Path
 import copy_files
 import reference
 from command_run import (ECCODES_SAMPLES, SAMPLES, Command, check, check_ended, check_equal, emulated, folder, is_root, names_in, run, skip,
-                         start, write)
+                         start, tells, write)
 from walk_files import END, least, message, section
 
 OLD = b"what stood here before"
@@ -46,8 +46,8 @@ def one_by_one(at):
     for file in chosen:
         done, found = copied(at, file)
         expected = reference.public_copy(file, len(file))
-        if (found, done.returncode) != ((None, 1) if expected.outcome else (expected.octets, 0)):
-            wrong.append((file[:200], done.returncode, found))
+        if (found, done.returncode) != ((None, 1) if expected.outcome else (expected.octets, 0)) or not tells(done.stderr, expected):
+            wrong.append((file[:200], done, found))
     check(f"copies of {len(chosen)} files, clean and refused, as reference.py says", not wrong, wrong[:3])
 
 
@@ -145,7 +145,7 @@ def refused_file(at):
     check_ended("a refused FILE is told", run("copy", cut, dest), 1, b"refused by 2 (cut): ", b"")
     check_equal("and leaves no DEST", names_in(at), [])
     write(dest, OLD)
-    check_ended("with --force too", run("copy", "--force", cut, dest), 1, b"place 16, offset 390, detail 0\n", b"")
+    check_ended("with --force too", run("copy", "--force", cut, dest), 1, b"place 16, offset 390, detail 17 (17 octets are missing)\n", b"")
     check_equal("and leaves an existing DEST alone", (names_in(at), dest.read_bytes()), (["dest"], OLD))
 
 

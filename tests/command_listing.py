@@ -8,13 +8,14 @@ from pathlib import Path
 import inventory_by_02
 import inventory_files
 import walk_files
-from command_run import ECCODES_SAMPLES, SAMPLES, check, check_ended, check_equal, folder, run, skip, write
+from command_run import ECCODES_SAMPLES, SAMPLES, check, check_ended, check_equal, folder, run, skip, tells, write
 
 # --- Written by hand -----------------------------------------------------------------------------
 
 SEA = b"0:0:0:0:2:2:1:6:103\n0:1:0:0:2:3:1:6:103\n1:0:269:10:0:3:1:12:1\n2:0:473:0:3:1:1:0:101\n"
 LEAST = b"0:0:0:0:none:none:none:none:none\n"
-CUT = b": refused by 2 (cut): "
+CUT = (b": refused by 2 (cut): 1 to 4 octets are left for a header, 1 to 3 for a section 8, or the payload of a section 1 to 6 is cut; "
+       b"place 16, offset 390, detail 17 (17 octets are missing)\n")
 COLUMNS = "submessage offset discipline category number time_unit time first_type".split()
 HEAD = "\t".join(COLUMNS).encode() + b"\n"
 ENTRIES = (b"0.0\t0\t0\t2\t2\t1\t6\t103\n0.1\t0\t0\t2\t3\t1\t6\t103\n"
@@ -65,8 +66,8 @@ def inventories_by_02(at):
     for file in files:
         path = write(at / "file", file)
         said, done = inventory_by_02.inventory(file, 1 << 40), run("inventory", path)
-        if (done.stdout, done.returncode) != (said.octets, 1 if said.outcome else 0):
-            wrong.append((file[:100], done.stdout, said))
+        if (done.stdout, done.returncode) != (said.octets, 1 if said.outcome else 0) or not tells(done.stderr, said):
+            wrong.append((file[:100], done, said))
     check(f"inventories of {len(files)} files are as document 02 has them", not wrong, wrong[:2])
 
 

@@ -8,7 +8,7 @@ import subprocess
 from pathlib import Path
 
 from command_listing import SEA as SEA_INVENTORY
-from command_reading import COLUMNS, SEA_FIELDS, SEA_INDEX, table
+from command_reading import COLUMNS, CUT_INDEX, SEA_FIELDS, SEA_INDEX, cut_refusal, re_request, table
 from command_run import ROOT, Command, check, check_equal, folder, skip, write
 
 MAN_PAGE = ROOT / "docs" / "buttresk.1"
@@ -164,11 +164,17 @@ def man_page_says_what_is_printed():
     check_equal("say.c has the refusals 0 to 21, and one for others", len(refusals), 23)
     for number in [*range(1, 15), 19, 20, 21]:
         name, means, detail = refusals[number]
-        entry = f"{number}\tT{{\n{name}: {means}\nT}}\t{detail or '0'}\n".replace('\\"', '"')
+        # the count of 2 is put in words where it is told
+        entry = f"{number}\tT{{\n{name}: {means}\nT}}\t{'the octets missing' if number == 2 else detail or '0'}\n".replace('\\"', '"')
         check(f"the man page words refusal {number} as the command does", entry in plain, entry)
     rows = re.findall(r"^([a-z_]+)\t", plain.split(".TS\nlB l.\n")[1].split(".TE")[0], re.MULTILINE)
     check_equal("its table has the columns that are printed", rows, COLUMNS)
     check("its examples are what is printed", SEA_INDEX in plain and SEA_INVENTORY.decode() in plain)
+    one_line = plain.replace("\\e\n", "")
+    cut = Path("samples/cut.grib2")
+    refusal, rest = cut_refusal(cut, 16, 390, 17).decode(), re_request(cut, 407).decode()
+    check("and of the cut sample all that is told", f"$ buttresk copy {cut} public.grib2\n{refusal}$ echo $?\n1\n" in one_line
+          and f"$ buttresk index {cut}\n{CUT_INDEX}{refusal}{rest}" in one_line, one_line[one_line.index("A file that was cut"):])
 
 
 def everything():

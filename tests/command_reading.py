@@ -10,8 +10,8 @@ from pathlib import Path
 import copy_files
 import reference
 import walk_files
-from command_run import ECCODES_SAMPLES, ROOT, SAMPLES, check, check_ended, check_equal, folder, run, skip, write
-from walk_files import END, message, section
+from command_run import ECCODES_SAMPLES, ROOT, SAMPLES, check, check_ended, check_equal, folder, missing, run, skip, tells, write
+from walk_files import A, END, message, section
 
 
 def loaded_from(path):
@@ -52,10 +52,26 @@ CUT_INDEX = """\
 sections 16 submessages 2 messages 1
 0.0 0 1 - 2 3 4 5 6 0
 0.1 0 1 - 2 7 8 9 10 11
-end 2 16 390 0
+end 2 16 390 17
 """
-CUT_REFUSAL = (b": refused by 2 (cut): 1 to 4 octets are left for a header, 1 to 3 for a section 8, or the payload of a section 1 to 6 "
-               b"is cut; place 16, offset 390, detail 0\n")
+CUT_MEANS = "1 to 4 octets are left for a header, 1 to 3 for a section 8, or the payload of a section 1 to 6 is cut"
+
+
+def cut_refusal(name, place, offset, detail):
+    """The line that tells a refusal 2."""
+    return (f"buttresk: {name}: refused by 2 (cut): {CUT_MEANS}; place {place}, offset {offset}, detail {detail} "
+            f"({missing(detail)})\n").encode()
+
+
+def re_request(name, octet):
+    """The line behind it, of index alone."""
+    return f"buttresk: {name}: a re-request has to start at octet {octet}, counted from 0, where the file ends\n".encode()
+
+
+# Section 4 of the second message starts at 390 and states 34 octets; the file has 407.
+CUT_SAMPLE = SAMPLES / "cut.grib2"
+CUT_REFUSAL = cut_refusal(CUT_SAMPLE, 16, 390, 17)
+CUT_RE_REQUEST = re_request(CUT_SAMPLE, 407)
 BY_HAND = [("sea", SEA_INDEX, SEA_FIELDS, 0), ("least", LEAST_INDEX, LEAST_FIELDS, 0), ("cut", CUT_INDEX, SEA_FIELDS[:2], 1)]
 
 
@@ -63,12 +79,18 @@ def table(lines):
     return "".join(line + "\n" for line in [HEAD, *(line.replace(" ", "\t") for line in lines)])
 
 
+def check_said(what, done, status, errors, output):
+    """As check_ended, but these are all of the errors."""
+    told = f"status {done.returncode}\nerrors {done.stderr}\noutput {done.stdout}\nwanted {status}\nerrors {errors}\noutput {output}"
+    check(what, (done.returncode, done.stderr, done.stdout) == (status, errors, output), told)
+
+
 def samples_by_hand():
     for name, index, lines, status in BY_HAND:
         path = SAMPLES / f"{name}.grib2"
-        refusal = CUT_REFUSAL if status else b""
-        check_ended(f"index of the sample {name}", run("index", path), status, refusal, index.encode())
-        check_ended(f"fields of the sample {name}", run("fields", path), status, refusal, table(lines).encode())
+        refusal, rest = (CUT_REFUSAL, CUT_RE_REQUEST) if status else (b"", b"")
+        check_said(f"index of the sample {name}", run("index", path), status, refusal + rest, index.encode())
+        check_said(f"fields of the sample {name}", run("fields", path), status, refusal, table(lines).encode())
 
 
 def samples_are_as_made():
@@ -80,8 +102,8 @@ def several_samples():
     paths = [SAMPLES / f"{name}.grib2" for name, *_ in BY_HAND]
     index = "".join(f"file {path}\n{index}" for path, (_, index, _, _) in zip(paths, BY_HAND))
     lines = "".join(f"file {path}\n{table(lines)}" for path, (_, _, lines, _) in zip(paths, BY_HAND))
-    check_ended("index of several files: each behind its name", run("index", *paths), 1, CUT_REFUSAL, index.encode())
-    check_ended("fields of several files: each behind its name", run("fields", *paths), 1, CUT_REFUSAL, lines.encode())
+    check_said("index of several files: each behind its name", run("index", *paths), 1, CUT_REFUSAL + CUT_RE_REQUEST, index.encode())
+    check_said("fields of several files: each behind its name", run("fields", *paths), 1, CUT_REFUSAL, lines.encode())
 
 
 # --- By the reference reader ---------------------------------------------------------------------
@@ -151,6 +173,8 @@ def as_the_reference(what, files, at):
     expected = "".join(head.format(path) + index_of(file) for path, file in zip(paths, files))
     check(f"index of {len(files)} files as reference.py says: {what}", (done.returncode, done.stdout) == (status, expected.encode()),
           first_difference(done.stdout.decode(), expected))
+    check(f"and standard error, with where a re-request starts behind each refusal 2: {what}", told_by_index(done.stderr, paths, files),
+          done.stderr[:1500])
     done = run("fields", *paths)
     expected = "".join(head.format(path) + as_table(rows) for path, rows in tables.items())
     check(f"fields of {len(files)} files as document 01's reader says: {what}",
@@ -160,6 +184,18 @@ def as_the_reference(what, files, at):
     expected = [pairs for path, rows in tables.items() for pairs in as_objects(str(path), rows)]
     check(f"fields --json of {len(files)} files: {what}", (done.returncode, objects) == (status, expected),
           first_difference("\n".join(map(str, objects)), "\n".join(map(str, expected))))
+
+
+def told_by_index(errors, paths, files):
+    """Whether these are all of its lines: one for each file that is refused, and behind one by 2 where the file ends."""
+    lines = iter(errors.splitlines(keepends=True))
+    for path, file in zip(paths, files):
+        answer = reference.walk(file)
+        if answer.outcome and not tells(next(lines, b""), answer):
+            return False
+        if answer.outcome == 2 and next(lines, b"") != re_request(path, len(file)):
+            return False
+    return next(lines, None) is None
 
 
 def first_difference(found, expected):
@@ -181,8 +217,57 @@ def refusals_are_told(at):
         done = run("index", write(at / "refused", file))
         said = f"refused: refused by {outcome} ({word}): "
         numbers = f"; place {place}, offset {offset}, detail {detail}"
-        check(f"refusal {outcome} is told in words and numbers, in one line", done.returncode == 1 and said.encode() in done.stderr
-              and numbers.encode() in done.stderr and done.stderr.count(b"\n") == 1, done)
+        first, _, more = done.stderr.partition(b"\n")
+        check(f"refusal {outcome} is told in words and numbers, in one line", done.returncode == 1 and said.encode() in first
+              and numbers.encode() in first and more.count(b"\n") == (1 if outcome == 2 else 0), done)
+
+
+# --- Cut files -----------------------------------------------------------------------------------
+
+# By hand from document 02: what is cut, the file, place, offset and detail. The sections of A start at 0, 16, 37, 51, 60, 71, 77 and 82, and
+# it ends at 86.
+BARE_6 = bytes([0, 0, 0, 5, 6])
+CUTS = [("a header of which 1 octet is there", A[:38], 2, 37, 4), ("a header of which 3 are", A[:40], 2, 37, 2),
+        ("a header of which 4 are", A[:81], 6, 77, 1), ("a payload right behind its header", A[:42], 2, 37, 9),
+        ("a payload in the middle", A[:45], 2, 37, 6), ("a payload before its last octet", A[:50], 2, 37, 1),
+        ("a section 8 of which 1 octet is there", A[:83], 7, 82, 3), ("a section 8 of which 2 are", A[:84], 7, 82, 2),
+        ("a section 8 of which 3 are", A[:85], 7, 82, 1), ("a section 6 of length 5", A[:71] + BARE_6, 5, 71, 1),
+        ("a section 8 of a second message", A + A[:84], 15, 168, 2), ("a header behind other octets", b"xyz" + A[:40], 2, 40, 2),
+        ("a section 1 of length 2^32 less 1", A[:16] + b"\xff\xff\xff\xff\1", 1, 16, 4294967290)]
+
+# No octets are told to be missing: 10 where the file ends between two sections or in a section 7's payload, other refusals, clean files.
+NOT_CUT = [("before section 8", A[:82], b"refused by 10 (input over): "), ("before section 7", A[:77], b"refused by 10 (input over): "),
+           ("in a section 7's payload", walk_files.LONG_7[:84], b"refused by 10 (input over): "),
+           ("in a section 6 of length 5 with an octet behind", A[:71] + BARE_6 + b"\0", b"refused by 8 (payload under least): "),
+           ("no end mark", A[:82] + b"7778", b"refused by 5 (no end mark): "),
+           ("a second message's section 0, which is none", A + A[:15], b""), ("clean", A, b""), ("empty", b"", b"")]
+
+
+def cut_files_are_told(at):
+    for what, file, place, offset, detail in CUTS:
+        path = write(at / "cut", file)
+        refusal = cut_refusal(path, place, offset, detail)
+        check_equal(f"cut: {what}: index says how many octets are missing, and where the rest starts", run("index", path).stderr,
+                    refusal + re_request(path, len(file)))
+        for words in (("fields", path), ("fields", "--json", path), ("inventory", path), ("copy", path, at / "dest")):
+            done = run(*words)
+            check_equal(f"and {words[0]}{' --json' * ('--json' in words)} how many", (done.returncode, done.stderr), (1, refusal))
+
+
+def cut_files_at_once(at):
+    """Each line has its own file's name and length."""
+    paths = [write(at / f"cut {number}", file) for number, (_, file, *_) in enumerate(CUTS)]
+    lines = [cut_refusal(path, *numbers) + re_request(path, len(file)) for path, (_, file, *numbers) in zip(paths, CUTS)]
+    clean = write(at / "clean", A)
+    check_equal("cut files at once, with clean ones between: each with its own lines",
+                run("index", *(name for path in paths for name in (path, clean))).stderr, b"".join(lines))
+
+
+def other_files_have_no_rest(at):
+    for what, file, refusal in NOT_CUT:
+        done = run("index", write(at / "not cut", file))
+        check(f"not cut: {what}: no octets are missing, and no re-request", refusal in done.stderr and b"re-request" not in done.stderr
+              and b"missing" not in done.stderr and done.stderr.count(b"\n") == (1 if refusal else 0), done)
 
 
 # --- eccodes -------------------------------------------------------------------------------------
@@ -257,6 +342,9 @@ def everything():
         as_the_reference("products", list(product_files()), at)
         as_the_reference("extremes", list(extreme_files()), at)
         refusals_are_told(at)
+        cut_files_are_told(at)
+        cut_files_at_once(at)
+        other_files_have_no_rest(at)
     values_of_the_sample()
     eccodes()
     other_edition()

@@ -1,6 +1,7 @@
 """What the tests of the command share: to run it, to say what held, to make files, and the count at the end."""
 
 import os
+import re
 import signal
 import subprocess
 import sys
@@ -112,6 +113,21 @@ def check_ended(what, done, status, in_errors=b"", in_output=None):
     if in_errors:
         told += f"\nwanted {shown(in_errors)}"
     return check(what, done.returncode == status and errors_as_said and output_as_said, told)
+
+
+def missing(octets):
+    """The detail of refusal 2 in words."""
+    return "1 octet is missing" if octets == 1 else f"{octets} octets are missing"
+
+
+def tells(errors, answer):
+    """Whether standard error has an answer of reference.py: nothing of a clean end, else one line with its numbers, and of 2 the words."""
+    if answer.outcome == 0:
+        return errors == b""
+    words = re.escape(f" ({missing(answer.detail)})") if answer.outcome == 2 else r"( \(.+\))?"
+    line = (rf"buttresk: .+: refused by {answer.outcome} \(.+\): .+; place {answer.place}, offset {answer.offset}, "
+            rf"detail {answer.detail}{words}\n")
+    return re.fullmatch(line.encode(), errors) is not None
 
 
 # --- Folders and files ---------------------------------------------------------------------------

@@ -1,8 +1,9 @@
 """The files in the list of public copies, each with how many octets its destination has, by what
-they try. The words are document 01's."""
+they try. The words are 01's and 02's."""
 
 from reference import LEAST
-from walk_files import A, END, NEARLY_GRIB, before, least, message, section, swept
+from walk_files import (A, CLEAN, END, MISSING, NEARLY_GRIB, before, cut_anywhere, least, message,
+                        section, swept)
 from walk_files import by_hand as walks_by_hand
 
 # --- Making files --------------------------------------------------------------------------------
@@ -81,7 +82,7 @@ NOT_COPIED = [
     (FILE[:104], 104, "10 7 94 0 0"),
     (FILE[:100], 100, "10 7 94 0 0"),
     (FILE[:94], 94, "10 6 85 0 0"),
-    (FILE[:93], 93, "2 6 85 0 0"),
+    (FILE[:93], 93, "2 6 85 1 0"),
     (FILE + b"--" + FILE[:100], 210, "10 16 204 0 0"),
 ]
 
@@ -97,6 +98,15 @@ def refused_walks():
 
 def by_hand():
     return COPIES + [(*case, b"") for case in NOT_COPIED + list(refused_walks())]
+
+
+def of_cut_files():
+    """How many octets are missing, with room for a copy: files written by hand, and every 12th cut
+    of three messages, where they are refused."""
+    _, cuts_of_three = cut_anywhere()
+    for file, end in [(file, end) for file, *_, end in MISSING] + cuts_of_three[::12]:
+        if end != CLEAN:
+            yield file, len(file), end + " 0", b""
 
 
 # --- Which octets are blanked --------------------------------------------------------------------

@@ -2,7 +2,8 @@
 
 from copy_files import FULL, FULL_PRODUCTS, FULL_STARTS
 from inventory_by_02 import inventory
-from walk_files import A, A97, A117, END, WITH_2, by_hand, least, message, section, swept
+from walk_files import (A, A97, A117, CLEAN, END, MISSING, WITH_2, by_hand, cut_anywhere, least,
+                        message, section, swept)
 
 NONE = b"none:none:none:none:none\n"
 
@@ -69,7 +70,7 @@ def inventories_by_hand():
     for room in (0, 66, 300):
         yield A97, room, "11 7 82 5 0", b""
         yield A + A97, room, "11 15 168 5 0", b""
-    yield A[:84], 100, "2 7 82 0 0", b""
+    yield A[:84], 100, "2 7 82 2 0", b""
     yield message(b""), 100, "10 0 0 0 0", b""
 
 
@@ -84,6 +85,16 @@ def swept_inventories():
         yield file, octets
         if octets and place % 5 == 0:
             yield file, octets - 1
+
+
+def inventories_of_cut_files():
+    """How many octets are missing, before 20: files written by hand, every cut of A, and every
+    fourth of three messages, where they are refused."""
+    cuts_of_a, cuts_of_three = cut_anywhere()
+    by_hand_too = [(file, end) for file, *_, end in MISSING]
+    for file, end in dict.fromkeys(by_hand_too + cuts_of_a + cuts_of_three[::4]):
+        if end != CLEAN:
+            yield file, 2, end + " 0", b""
 
 
 # --- Lists with answers written by hand ----------------------------------------------------------

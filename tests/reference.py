@@ -1,8 +1,9 @@
-"""The section walk, the public copy and the writer by document 01, read plainly: it says the
-answers that the stored lists expect.
+"""The section walk, the public copy and the writer by documents 01 and 02, read plainly: it says
+the answers that the stored lists expect.
 
-Written from document 01, with the project's reading where 01 leaves two; it shares nothing with the
-library. Headings and words are 01's.
+Written from the documents, with the project's reading where they leave two; it shares nothing with
+the library. Headings and words are 01's. 02 says how many octets are missing of a section that is
+cut (its Ticket 2).
 """
 
 from math import inf
@@ -25,7 +26,8 @@ class InputOver(Exception):
 
 
 class Unread(Exception):
-    """The section in hand can't be read: one of the refusals 2 to 9."""
+    """The section in hand can't be read: one of the refusals 2 to 9. The detail of 2 is the count
+    of missing octets."""
 
     def __init__(self, outcome, offset, detail=0):
         super().__init__(outcome, offset, detail)
@@ -55,7 +57,7 @@ def read_section_8(file, at):
     if not octets:
         raise InputOver
     if len(octets) < 4:
-        raise Unread(2, at)
+        raise Unread(2, at, 4 - len(octets))
     if octets != b"7777":
         raise Unread(5, at)
     return Section(8, at, 4)
@@ -68,12 +70,21 @@ def payload_cut(number, payload, left):
     return left < (max(payload, 1) if number == 6 else payload)
 
 
+def missing_of_payload(file, at, number, length):
+    """Of a payload that is cut: its stated end less the file's length, and 1 for a section 6 of
+    length 5, whose stated end is the file's."""
+    if (number, length) == (6, 5):
+        return 1
+    stated_end = at + length
+    return stated_end - len(file)
+
+
 def read_section_1_to_7(file, at, rest):
     header = file[at:at + 5]
     if not header:
         raise InputOver
     if len(header) < 5:
-        raise Unread(2, at)
+        raise Unread(2, at, 5 - len(header))
     length, number = unsigned(header[:4]), header[4]
     if length < 5:
         raise Unread(6, at, length)
@@ -81,7 +92,7 @@ def read_section_1_to_7(file, at, rest):
         raise Unread(7, at, number)
     payload = length - 5
     if payload_cut(number, payload, left=len(file) - (at + 5)):
-        raise Unread(2, at)
+        raise Unread(2, at, missing_of_payload(file, at, number, length))
     if payload < LEAST[number]:
         raise Unread(8, at, payload)
     if length > rest:

@@ -33,6 +33,7 @@ use Rattle.walk_laws.proofs.Messages.{messages-are-ends}
 use Rattle.walk_laws.proofs.Places.{place-is-count, input-over-at-last}
 use Rattle.as_the_crate.specs.Std.{SectionInfo, info}
 use Rattle.as_the_crate.specs.Parser.{positions, Submessage, overflow}
+use Rattle.as_the_crate.specs.Equal.{countTold}
 use Rattle.as_the_crate.specs.Told.{sectionIn, localIn, lineIn, closedIn, outcomeIn, toldIn}
 use Rattle.as_the_crate.proofs.Words.{infosOf, keptLocal, submessageOf, submessagesOf, wordOf, inWords}
 use Rattle.as_the_crate.proofs.Tables.{freelyBy, freely, freelyFrom}
@@ -122,12 +123,12 @@ module _ (file : List ℕ) where
       as-many ss ∙ sym (place-is-count unlimited file (faultNumber f) (p .0) (o .0) (faultDetail f) n0 n1 n10 (ap endOf e))
 
   outcome-back : (o : Outcome) → walked unlimited file .outcome ≡ o → Ordinary o → Not (wordOf o ≡ overflow)
-      → outcomeIn (infosOf ss) (wordOf o) ≡ o
+      → outcomeIn (endOf o .detail) (infosOf ss) (wordOf o) ≡ o
   unfolding endOf refusalNumber refusalDetail faultNumber faultDetail
   outcome-back outcome.Clean e h no-overflow = refl
   outcome-back (outcome.Refused refusal.FileTooLong p o) e h no-overflow = absurd h
-  outcome-back (outcome.Refused (refusal.Unreadable fault.Cut) p o) e h no-overflow =
-      rw (counted fault.Cut p o e (λ z. omega arith) (λ z. omega arith) (λ z. omega arith)) refl
+  outcome-back (outcome.Refused (refusal.Unreadable (fault.Cut missing)) p o) e h no-overflow =
+      rw (counted (fault.Cut missing) p o e (λ z. omega arith) (λ z. omega arith) (λ z. omega arith)) refl
   outcome-back (outcome.Refused (refusal.Unreadable (fault.OtherEdition edition)) p o) e h no-overflow =
       rw (counted (fault.OtherEdition edition) p o e (λ z. omega arith) (λ z. omega arith) (λ z. omega arith)) refl
   outcome-back (outcome.Refused (refusal.Unreadable fault.TotalUnder16) p o) e h no-overflow = absurd (no-overflow refl)
@@ -148,7 +149,7 @@ module _ (file : List ℕ) where
 
   -- all that the walk tells
   pub told-back : length file ≤ 1099511627776 → Not (wordOf (walked unlimited file .outcome) ≡ overflow)
-      → toldIn (inWords positions (λ k. k) (walked unlimited file)) ≡ walked unlimited file
+      → toldIn (countTold file) (inWords positions (λ k. k) (walked unlimited file)) ≡ walked unlimited file
   told-back most no-overflow =
       rw (
         sections-back ss,

@@ -18,7 +18,7 @@ use Rattle.pull.proofs.Sequence.{sequence}
 use Rattle.as_the_crate.specs.Std.{SectionInfo}
 use Rattle.as_the_crate.specs.Parser.{positions, infos, Submessage, Collected}
 use Rattle.as_the_crate.specs.Told.{toldIn, toldByTheRust}
-use Rattle.as_the_crate.specs.Equal.{IsFile, RustOverflows, passedAt, passedAtSome, lookedUp}
+use Rattle.as_the_crate.specs.Equal.{IsFile, RustOverflows, countTold, passedAt, passedAtSome, lookedUp}
 use Rattle.as_the_crate.specs.Equal.{EqualsTheRust, WalkEqualsTheRust, WalkNumbersEqualsTheRust, PullEqualsTheRust, PublicRustIsTheSame}
 use Rattle.as_the_crate.proofs.Words.{infosOf, keptLocal, submessagesOf, inWords}
 use Rattle.as_the_crate.proofs.Whole.{free, crateFree, held, unlimited-held, with-places, with-sections, in-its-words}
@@ -29,10 +29,10 @@ as-many-lines [] = refl
 as-many-lines (l ∷ ls) = ap suc (as-many-lines ls)
 
 -- with room for any file
-unlimited-equals : (file : List ℕ) → IsFile file → Not (RustOverflows file) → walked unlimited file ≡ toldByTheRust file
+unlimited-equals : (file : List ℕ) → IsFile file → Not (RustOverflows file) → walked unlimited file ≡ toldByTheRust (countTold file) file
 unlimited-equals file is no-overflow =
     let words = in-its-words file is no-overflow in
-    sym (told-back file (is .most) (λ h. no-overflow (ap (λ (c : Collected ℕ). c .end) words ∙ h))) ∙ ap toldIn (sym words)
+    sym (told-back file (is .most) (λ h. no-overflow (ap (λ (c : Collected ℕ). c .end) words ∙ h))) ∙ ap (toldIn (countTold file)) (sym words)
 
 pub equals-the-rust : EqualsTheRust
 equals-the-rust file is no-overflow room (rows, lines) =

@@ -35,7 +35,7 @@ use Rattle.as_the_crate.proofs.Search.{seek-is, found-at, search-is}
 
 -- why a section can't be read, as an answer
 abbrev pub failed : Fault → Offset → NextSection
-failed fault.Cut offset = begun (offset .0) (err ReadError)
+failed (fault.Cut missing) offset = begun (offset .0) (err ReadError)
 failed (fault.OtherEdition edition) offset = begun (offset .0) (err (GRIBVersionMismatch edition))
 failed fault.TotalUnder16 offset = overflows
 failed fault.NotEndMark offset = begun (offset .0) (err EndSectionMismatch)

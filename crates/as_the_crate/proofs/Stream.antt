@@ -34,7 +34,7 @@ pub data Yields {I : Type 0} (advance : Advance I) : I → List Section → Endi
       → Yields advance i (s ∷ ss) e
 
 by-fault : (advance : Advance Grib2SectionStream) (i : Grib2SectionStream) (f : Fault) (offset : Offset) → advance i ≡ failed f offset → Yields advance i [] (unreadable f offset)
-by-fault advance i fault.Cut offset h = is-refused h refl
+by-fault advance i (fault.Cut missing) offset h = is-refused h refl
 by-fault advance i (fault.OtherEdition edition) offset h = is-refused h refl
 by-fault advance i fault.TotalUnder16 offset h = is-broken h refl
 by-fault advance i fault.NotEndMark offset h = is-refused h refl

@@ -66,7 +66,7 @@ abbrev pub unreadAt : ParseError → Offset → Finish
 unreadAt error offset = fails error (record { began = offset .0; number = 0 })
 
 abbrev pub failureOf : Fault → Offset → Finish
-failureOf fault.Cut offset = unreadAt ReadError offset
+failureOf (fault.Cut missing) offset = unreadAt ReadError offset
 failureOf (fault.OtherEdition edition) offset = unreadAt (GRIBVersionMismatch edition) offset
 failureOf fault.TotalUnder16 offset = overflow
 failureOf fault.NotEndMark offset = unreadAt EndSectionMismatch offset

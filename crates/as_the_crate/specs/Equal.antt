@@ -7,7 +7,8 @@ use mathlib.Core.List.{List, map}
 use lib.Dec.{eqb}
 use lib.ListN.{length, getD}
 use Rattle.octets.specs.Words.{pick, Not}
-use Rattle.index.specs.Bounds.{mostOctets}
+use Rattle.index.specs.Numbers.{endOf}
+use Rattle.index.specs.Bounds.{mostOctets, unlimited}
 use Rattle.index.specs.declared.bounds.Room.{Room}
 use Rattle.index.specs.declared.line.Line.{Line}
 use Rattle.index.specs.Walk.{walked}
@@ -34,13 +35,19 @@ abbrev pub HoldsTheRust : List ℕ → ℕ → ℕ → Type 0
 HoldsTheRust file rows lines =
     (length (theRust file .sections) ≤ rows) × (length (theRust file .submessages) ≤ lines)
 
--- sections, lines, messages closed and outcome with place, offset and detail: the definition of a
--- walk is what the crate tells
+-- the detail at the end of a file's walk. It stands in for the one number that the crate never
+-- tells: where both refuse with 2, how many octets are missing (02, Ticket 2). Nothing else that is
+-- told by the crate is taken from the walk
+abbrev pub countTold : List ℕ → ℕ
+countTold file = endOf (walked unlimited file .outcome) .detail
+
+-- sections, lines, messages closed and outcome with place, offset and detail: but for that count the
+-- definition of a walk is what the crate tells
 abbrev pub EqualsTheRust : Type 0
 EqualsTheRust =
     (file : List ℕ) → IsFile file → Not (RustOverflows file)
     → (room : Room) → HoldsTheRust file (room .rows) (room .lines)
-    → walked room file ≡ toldByTheRust file
+    → walked room file ≡ toldByTheRust (countTold file) file
 
 -- so `walk` answers that, and stores it in the lent tables, over what was there
 abbrev pub WalkEqualsTheRust : Type 0
@@ -49,11 +56,12 @@ WalkEqualsTheRust =
     → (rows : List ℕ) (lines : List Line)
     → 3 * length (theRust file .sections) ≤ length rows
     → length (theRust file .submessages) ≤ length lines
-    → walkOf file rows lines
+    → let rust = toldByTheRust (countTold file) file in
+    walkOf file rows lines
     ≡ record {
-      answer = answerOf (toldByTheRust file);
-      rows = storedOver (rowsOf (toldByTheRust file .sections)) rows;
-      lines = storedOver (toldByTheRust file .lines) lines;
+      answer = answerOf rust;
+      rows = storedOver (rowsOf (rust .sections)) rows;
+      lines = storedOver (rust .lines) lines;
     }
 
 -- and `walk_numbers`, in 01's numbers
@@ -63,11 +71,12 @@ WalkNumbersEqualsTheRust =
     → (rows lines : List ℕ)
     → 3 * length (theRust file .sections) ≤ length rows
     → 12 * length (theRust file .submessages) ≤ length lines
-    → walkNumbers file rows lines
+    → let rust = toldByTheRust (countTold file) file in
+    walkNumbers file rows lines
     ≡ record {
-      answer = sevenOf (answerOf (toldByTheRust file));
-      rows = storedOver (rowsOf (toldByTheRust file .sections)) rows;
-      lines = storedOver (linesOf (toldByTheRust file .lines)) lines;
+      answer = sevenOf (answerOf rust);
+      rows = storedOver (rowsOf (rust .sections)) rows;
+      lines = storedOver (linesOf (rust .lines)) lines;
     }
 
 -- and the pull reader hands out the crate's sections in their order, a section a call, then its
@@ -75,7 +84,7 @@ WalkNumbersEqualsTheRust =
 abbrev pub PullEqualsTheRust : Type 0
 PullEqualsTheRust =
     (file : List ℕ) → IsFile file → Not (RustOverflows file) → (call : ℕ)
-    → let rust = toldByTheRust file in
+    → let rust = toldByTheRust (countTold file) file in
     (pulled file call ≡ handsOut 0 (rust .sections) (rust .outcome) call)
     × (pullAt file (afterCalls call file) .answer
     ≡ handsOut 0 (rust .sections) (rust .outcome) call)

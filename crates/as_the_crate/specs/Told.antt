@@ -107,42 +107,43 @@ abbrev pub unreadIn : List SectionInfo → Dropped → Fault → Outcome
 unreadIn passed dropped fault =
     refusedIn (refusal.Unreadable fault) (length passed) (dropped .began)
 
--- an error. Of 10 the crate tells the place, which is that of the last section that passed; of 11
--- and 12 too, where the offset and the number are those of the section in hand
-abbrev pub errorIn : List SectionInfo → ParseError → Dropped → Outcome
-errorIn passed ReadError dropped = unreadIn passed dropped fault.Cut
-errorIn passed (GRIBVersionMismatch edition) dropped =
+-- an error. How many octets a read was short of the crate does not tell: `missing` is handed in. Of
+-- 10 it tells the place, which is that of the last section that passed; of 11 and 12 too, where the
+-- offset and the number are those of the section in hand
+abbrev pub errorIn : ℕ → List SectionInfo → ParseError → Dropped → Outcome
+errorIn missing passed ReadError dropped = unreadIn passed dropped (fault.Cut missing)
+errorIn missing passed (GRIBVersionMismatch edition) dropped =
     unreadIn passed dropped (fault.OtherEdition edition)
-errorIn passed EndSectionMismatch dropped = unreadIn passed dropped fault.NotEndMark
-errorIn passed (UnknownSectionNumber number) dropped =
+errorIn missing passed EndSectionMismatch dropped = unreadIn passed dropped fault.NotEndMark
+errorIn missing passed (UnknownSectionNumber number) dropped =
     unreadIn passed dropped (fault.UnknownNumber number)
-errorIn passed (SectionSizeTooSmall size) dropped =
+errorIn missing passed (SectionSizeTooSmall size) dropped =
     unreadIn passed dropped (fault.PayloadUnderLeast size)
-errorIn passed (UnexpectedEndOfData pos) dropped =
+errorIn missing passed (UnexpectedEndOfData pos) dropped =
     refusedIn refusal.InputOver pos (getD passed pos (info 0 0 0) .offset)
-errorIn passed (InvalidSectionOrder pos) dropped =
+errorIn missing passed (InvalidSectionOrder pos) dropped =
     refusedIn (refusal.Misplaced (dropped .number)) pos (dropped .began)
-errorIn passed (NoGridDefinition pos) dropped =
+errorIn missing passed (NoGridDefinition pos) dropped =
     refusedIn (refusal.NoGrid (dropped .number)) pos (dropped .began)
 
 -- an end. An overflow, and no end, are no outcome: in their stead stands 1, which is told of no
 -- file of at most 2^40 octets
-abbrev pub outcomeIn : List SectionInfo → Finish → Outcome
-outcomeIn passed clean = outcome.Clean
-outcomeIn passed (fails e dropped) = errorIn passed e dropped
-outcomeIn passed overflow = refusedIn refusal.FileTooLong 0 0
-outcomeIn passed unended = refusedIn refusal.FileTooLong 0 0
+abbrev pub outcomeIn : ℕ → List SectionInfo → Finish → Outcome
+outcomeIn missing passed clean = outcome.Clean
+outcomeIn missing passed (fails e dropped) = errorIn missing passed e dropped
+outcomeIn missing passed overflow = refusedIn refusal.FileTooLong 0 0
+outcomeIn missing passed unended = refusedIn refusal.FileTooLong 0 0
 
 -- all that is collected
-abbrev pub toldIn : Collected ℕ → Told
-toldIn rust =
+abbrev pub toldIn : ℕ → Collected ℕ → Told
+toldIn missing rust =
     record {
       sections = map (λ (s : SectionInfo). sectionIn s) (rust .sections);
       lines = map (λ (s : Submessage ℕ). lineIn s) (rust .submessages);
       messages = closedIn (rust .sections);
-      outcome = outcomeIn (rust .sections) (rust .end);
+      outcome = outcomeIn missing (rust .sections) (rust .end);
     }
 
--- what the crate tells of a file
-abbrev pub toldByTheRust : List ℕ → Told
-toldByTheRust file = toldIn (theRust file)
+-- what the crate tells of a file, with this count where a read was short
+abbrev pub toldByTheRust : ℕ → List ℕ → Told
+toldByTheRust missing file = toldIn missing (theRust file)

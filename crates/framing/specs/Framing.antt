@@ -63,10 +63,11 @@ indicatorAt file g =
     (pick (ltb total indicatorSize) (refusedAt TotalUnder16 g)
     (sectionAt (indicator .number) g indicatorSize (total - indicatorSize)))
 
--- section 8, with an octet left at least: 2, then 5
+-- section 8, with an octet left at least: 2 (4 less what is left are missing), then 5
 unfoldable pub endAt : List ℕ → ℕ → Read
 endAt file at =
-    pick (ltb (length file - at) endSize) (refusedAt Cut at)
+    let left = length file - at in
+    pick (ltb left endSize) (refusedAt (Cut (endSize - left)) at)
     (pick (saysMark file at endMark) (sectionAt (endSection .number) at endSize 0)
     (refusedAt NotEndMark at))
 
@@ -77,22 +78,28 @@ isCut number len left =
     not (eqb number (dataSection .number))
     && (ltb left len || (eqb number (bitMap .number) && ltb left (headerSize + leastBitMap)))
 
+-- the octets missing of a payload that is cut: its stated end less the file's length, both counted
+-- from the section's start (02, Ticket 2); 1, the indicator, of a section 6 of length 5
+unfoldable pub missing : ℕ → ℕ → ℕ
+missing len left = pick (ltb left len) (len - left) leastBitMap
+
 -- a section behind its header, of a kind with this least payload: 7, 2 (payload), 8, 9
 unfoldable pub payloadAt : LeastOf → ℕ → ℕ → ℕ → ℕ → ℕ → Read
 payloadAt NoHeader at number len left rest = refusedAt (UnknownNumber number) at
 payloadAt (Octets least) at number len left rest =
-    pick (isCut number len left) (refusedAt Cut at)
+    pick (isCut number len left) (refusedAt (Cut (missing len left)) at)
     (pick (ltb (len - headerSize) least) (refusedAt (PayloadUnderLeast (len - headerSize)) at)
     (pick (ltb rest len) (refusedAt (LongerThanRest len) at)
     (sectionAt number at len (rest - len))))
 
--- a section with a header, with an octet left at least: 2 (header), 6, then by its kind
+-- a section with a header, with an octet left at least: 2 (5 less what is left for it are missing),
+-- 6, then by its kind
 unfoldable pub headerAt : List ℕ → ℕ → ℕ → Read
 headerAt file at rest =
     let left = length file - at in
     let len = beAt file at 4 in
     let number = getD file (at + 4) 0 in
-    pick (ltb left headerSize) (refusedAt Cut at)
+    pick (ltb left headerSize) (refusedAt (Cut (headerSize - left)) at)
     (pick (ltb len headerSize) (refusedAt (LengthUnder5 len) at)
     (payloadAt (leastPayloadOf number) at number len left rest))
 

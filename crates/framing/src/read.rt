@@ -5,7 +5,8 @@ ghost use lib.ListN.{length};
 ghost use Rattle.sections.specs.Kinds.{headerSize, indicatorSize, leastPayloadOf};
 ghost use Rattle.framing.specs.Read.{Over};
 ghost use Rattle.framing.specs.Framing.{sectionAt, refusedAt, without, framed, readAt};
-ghost use Rattle.framing.specs.Framing.{indicatorAt, endAt, headerAt, payloadAt, isCut};
+ghost use Rattle.framing.specs.Framing.{indicatorAt, endAt, headerAt, payloadAt};
+ghost use Rattle.framing.specs.Framing.{isCut, missing};
 use crate::search::Found;
 use crate::search::next_start;
 use crate::search::says;
@@ -37,8 +38,9 @@ pub struct Cursor {
 
 // Why a section can't be read, in the order of document 01's refusals 2 to 9.
 pub enum Fault {
-    // The file ends inside a header, inside section 8 or inside a payload that is read.
-    Cut,
+    // The file ends inside a header, inside section 8 or inside a payload that is read: so many
+    // octets are missing, one at least, and no more than a length of four octets can state.
+    Cut(u32),
     // The edition is not 2.
     OtherEdition(u64),
     // The total length has no room for section 0 itself.
@@ -160,8 +162,9 @@ fn end_at(file: &[u8], at: usize) -> Framed
     requires { ⌜ at ≤ length (now file) ⌝ }
     ensures { λ r. ⌜ r ≡ framed (endAt (now (file .entry)) at) ⌝ }
 {
-    if file.len() - at < EndSection::WHOLE_SIZE {
-        return refuse(Fault::Cut, at);
+    let left = file.len() - at;
+    if left < EndSection::WHOLE_SIZE {
+        return refuse(Fault::Cut((EndSection::WHOLE_SIZE - left) as u32), at);
     }
     if says(file, at, b'7', b'7', b'7', b'7') {
         section_at(EndSection::NUMBER, at, EndSection::WHOLE_SIZE as u32, 0)
@@ -187,6 +190,18 @@ fn is_cut(number: u64, length: u32, left: usize) -> bool
     false
 }
 
+// The octets missing of a payload that is cut: its stated end less the file's, both counted from
+// the header on; 1, the indicator, of a section 6 of length 5.
+fn missing(length: u32, left: usize) -> u32
+    ensures { λ r. ⌜ r ≡ missing length left ⌝ }
+{
+    let stated = length as usize;
+    if left < stated {
+        return (stated - left) as u32;
+    }
+    BitMap::LEAST_PAYLOAD as u32
+}
+
 // A section whose header says its number and its length, of which the header itself is a part.
 fn payload_at(at: usize, number: u8, length: u32, left: usize, rest: u64) -> Framed
     requires { ⌜ (at + length < 2 ^ 64) × (headerSize ≤ length) ⌝ }
@@ -197,7 +212,7 @@ fn payload_at(at: usize, number: u8, length: u32, left: usize, rest: u64) -> Fra
         return refuse(Fault::UnknownNumber(number as u64), at);
     };
     if is_cut(number as u64, length, left) {
-        return refuse(Fault::Cut, at);
+        return refuse(Fault::Cut(missing(length, left)), at);
     }
     let payload = length - HEADER_SIZE as u32;
     if (payload as usize) < least {
@@ -216,7 +231,7 @@ fn header_at(file: &[u8], at: usize, rest: u64) -> Framed
 {
     let left = file.len() - at;
     if left < HEADER_SIZE {
-        return refuse(Fault::Cut, at);
+        return refuse(Fault::Cut((HEADER_SIZE - left) as u32), at);
     }
     let length = be32([file[at], file[at + 1], file[at + 2], file[at + 3]]);
     if length < HEADER_SIZE as u32 {

@@ -48,7 +48,7 @@ use Rattle.index.specs.Pins.{RowsAreLaidOut, OverTellsAll, StandsNext, J
 -- a section that can't be read is 2 to 9
 pub fault-number : (fault : Fault) → (2 ≤ faultNumber fault) × (faultNumber fault ≤ 9)
 unfolding faultNumber
-fault-number fault.Cut = (omega arith, omega arith)
+fault-number (fault.Cut missing) = (omega arith, omega arith)
 fault-number (fault.OtherEdition edition) = (omega arith, omega arith)
 fault-number fault.TotalUnder16 = (omega arith, omega arith)
 fault-number fault.NotEndMark = (omega arith, omega arith)

@@ -12,7 +12,7 @@ use Rattle.index.specs.declared.refusal.Outcome.the-variants as outcome
 
 -- 2 to 9
 unfoldable pub faultNumber : Fault → ℕ
-faultNumber fault.Cut = 2
+faultNumber (fault.Cut missing) = 2
 faultNumber (fault.OtherEdition edition) = 3
 faultNumber fault.TotalUnder16 = 4
 faultNumber fault.NotEndMark = 5
@@ -22,7 +22,7 @@ faultNumber (fault.PayloadUnderLeast size) = 8
 faultNumber (fault.LongerThanRest len) = 9
 
 unfoldable pub faultDetail : Fault → ℕ
-faultDetail fault.Cut = 0
+faultDetail (fault.Cut missing) = missing
 faultDetail (fault.OtherEdition edition) = edition
 faultDetail fault.TotalUnder16 = 0
 faultDetail fault.NotEndMark = 0

@@ -33,7 +33,7 @@ fn fault_number(fault: Fault) -> u64
     ensures { λ r. ⌜ r ≡ faultNumber fault ⌝ }
 {
     match fault {
-        Fault::Cut => 2,
+        Fault::Cut(_) => 2,
         Fault::OtherEdition(_) => 3,
         Fault::TotalUnder16 => 4,
         Fault::NotEndMark => 5,
@@ -48,7 +48,7 @@ fn fault_detail(fault: Fault) -> u64
     ensures { λ r. ⌜ r ≡ faultDetail fault ⌝ }
 {
     match fault {
-        Fault::Cut => 0,
+        Fault::Cut(missing) => missing as u64,
         Fault::OtherEdition(edition) => edition,
         Fault::TotalUnder16 => 0,
         Fault::NotEndMark => 0,

@@ -8,6 +8,7 @@ use Rattle.index.proofs.Pins.{lines-are-pinned, a-line-for-each-7}
 use Rattle.walk_laws.proofs.Computed.{starred-hold, others-hold, witnesses-hold}
 use Rattle.walk_laws.proofs.WholeWalk.{is-clean, walk-refused-exactly-when, walk-clean-exactly-when}
 use Rattle.walk_laws.proofs.OneStep.{one-step-exactly-when}
+use Rattle.walk_laws.proofs.Missing.{how-much-is-missing}
 use Rattle.walk_laws.proofs.Messages.{closed-messages-are-tiled, each-end-closes-a-message, messages-are-ends, no-end-at-place-0}
 use Rattle.walk_laws.proofs.Counts.{unlimited-is-never-full}
 use Rattle.walk_laws.proofs.Unlimited.{begins-the-unlimited, held-is-unlimited}
@@ -53,6 +54,7 @@ demand-2 =
       walk-refuses = walk-refused-exactly-when;
       walk-ends-clean = walk-clean-exactly-when;
       one-step = one-step-exactly-when;
+      missing = how-much-is-missing;
       starred = starred-hold;
       others = others-hold;
       each-refusal = witnesses-hold;

@@ -1,5 +1,4 @@
--- The promises of Buttresk: its three demands in their own words, and under each what is proved
--- (proofs/Kept.antt). docs/ARCHITECTURE.md says what to read beside this page, in which order.
+-- Buttresk's three demands in their own words, and what is proved. docs/ARCHITECTURE.md leads here.
 use Prim.Native.Nat.{ℕ, _≤_}
 use mathlib.Core.Path.{_≡_}
 use mathlib.Core.List.{List, map}
@@ -16,6 +15,7 @@ use Rattle.walk_laws.specs.ExactlyWhen as exactly
 use Rattle.walk_laws.specs.OneStep.{OneStepExactlyWhen}
 use Rattle.walk_laws.specs.Samples as samples
 use Rattle.walk_laws.specs.Witnesses as witnesses
+use Rattle.walk_laws.specs.Missing.{HowMuchIsMissing}
 use Rattle.walk_laws.specs.Laws as laws
 use Rattle.as_the_crate.specs.Equal as rust
 use Rattle.as_the_crate.specs.Overflow.{OverflowsExactlyWhen}
@@ -58,6 +58,7 @@ pub record Demand2 : Type 0 where
   pub walk-refuses : exactly.WalkRefusedExactlyWhen
   pub walk-ends-clean : exactly.WalkCleanExactlyWhen
   pub one-step : OneStepExactlyWhen
+  pub missing : HowMuchIsMissing  -- 02, Ticket 2: 2 tells an octet at least; each that comes counts
   -- document 01's samples, and walks that give each refusal
   pub starred : samples.StarredHold
   pub others : samples.OthersHold
@@ -74,8 +75,7 @@ pub record Demand2 : Type 0 where
   pub never-full : laws.UnlimitedIsNeverFull
   pub begins : laws.BeginsTheUnlimited
   pub held : laws.HeldIsUnlimited
-  -- the pull reader hands out the walk's sections, its refusal once, then "ended"
-  pub pull-hands-out : PullHandsOut
+  pub pull-hands-out : PullHandsOut  -- the walk's sections, its refusal once, then "ended"
   -- a copy is refused by 1, 19 or the walk's refusals, or written, exactly when 01 says
   pub copy-refuses : CopyRefusedExactlyWhen
   pub copy-written : CopyWrittenExactlyWhen
@@ -86,8 +86,8 @@ pub record Demand2 : Type 0 where
   pub one-message : plan.OneMessageIsInOrder
   pub reads-back : plan.WrittenReadsBack
   -- the Rust, transcribed: where it does not overflow and the tables hold its lines, both walks and
-  -- the pull reader give what it tells; it overflows exactly where 01's additions refuse. That the
-  -- transcription is the crate's is tested: `tests/oracle/transcription --decide`, 2,245 files
+  -- the pull reader give what it tells, which has no count of missing octets. It overflows exactly
+  -- where 01's additions refuse. The transcription is tested (`tests/oracle/transcription`)
   pub walk-is-the-rust's : rust.WalkEqualsTheRust
   pub numbers-are-the-rust's : rust.WalkNumbersEqualsTheRust
   pub pull-is-the-rust's : rust.PullEqualsTheRust

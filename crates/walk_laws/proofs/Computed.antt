@@ -6,7 +6,7 @@ use Rattle.octets.specs.BigEndian.{beAt}
 use Rattle.octets.specs.Signed.{signedOf}
 use Rattle.sections.specs.Kinds.{leastPayloadOf, kindOf, kinds}
 use Rattle.framing.specs.Search.{says, startsAt, startAmong, nextStart}
-use Rattle.framing.specs.Framing.{indicatorAt, endAt, isCut, payloadAt, headerAt, messageAt, readAt}
+use Rattle.framing.specs.Framing.{indicatorAt, endAt, isCut, missing, payloadAt, headerAt, messageAt, readAt}
 use Rattle.framing.specs.Listing.{listingFrom, listing}
 use Rattle.order.specs.Order.{judged, completes, isBetween}
 use Rattle.index.specs.Lines.{inForce, lineOf}
@@ -29,8 +29,8 @@ others-hold = refl
 
 pub witnesses-hold : WitnessesHold
 unfolding witnesses walked walkedFrom judgement byOrder closing fitted concluded lineOf inForce judged completes isBetween endOf
-    refusalNumber refusalDetail faultNumber faultDetail listing listingFrom readAt messageAt headerAt payloadAt isCut endAt indicatorAt
-    nextStart startAmong startsAt says leastPayloadOf kindOf kinds beAt
+    refusalNumber refusalDetail faultNumber faultDetail listing listingFrom readAt messageAt headerAt payloadAt isCut missing endAt
+    indicatorAt nextStart startAmong startsAt says leastPayloadOf kindOf kinds beAt
 witnesses-hold = refl
 
 pub too-long-refused : TooLongRefused

@@ -243,7 +243,8 @@ to-9 file at rest n o d (behindHeader a b i (here, inr (_, inr (_, inl (h, e, f)
 to-9 file at rest n o d (behindHeader a b i (here, inr (_, inr (_, inr (_, inl (h, e, f)))))) = omega arith
 to-9 file at rest n o d (behindHeader a b i (here, inr (_, inr (_, inr (_, inr (_, inl (h, e, f))))))) = omega arith
 to-9 file at rest n o d (behindHeader a b i (here, inr (_, inr (_, inr (_, inr (_, inr (_, inl (h, e, f)))))))) = omega arith
-to-9 file at rest n o d (behindHeader a b i (here, inr (_, inr (_, inr (_, inr (_, inr (_, inr (_, h)))))))) = absurd h
+to-9 file at rest n o d (behindHeader a b i (here, inr (_, inr (_, inr (_, inr (_, inr (_, inr (_, inl (h, e, f))))))))) = omega arith
+to-9 file at rest n o d (behindHeader a b i (here, inr (_, inr (_, inr (_, inr (_, inr (_, inr (_, inr (_, h))))))))) = absurd h
 
 never : (file : List ℕ) (n p o d : ℕ) → Given unlimited file n p o d → Not (n ≡ 13) × Not (n ≡ 14)
 never file _ _ _ _ (tooLong long) = ((λ z. omega arith), λ z. omega arith)

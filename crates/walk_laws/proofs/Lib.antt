@@ -12,4 +12,5 @@ pub mod Messages
 pub mod Counts
 pub mod Places
 pub mod Unlimited
+pub mod Missing
 pub mod Computed

@@ -7,7 +7,7 @@ use mathlib.Core.List.{List}
 use mathlib.Core.Logic.{_⊎_, inl, inr}
 use lib.Dec.{ltb, leb, eqb}
 use lib.ListN.{length}
-use borrow.Author.Tests.{ltb-true, ltb-false, leb-true, leb-false, eqb-true, eqb-false, eq-eqb, ne-eqb}
+use borrow.Author.Tests.{ltb-true, ltb-false, leb-true, leb-false, eqb-true, eqb-false, lt-ltb, le-ltb, eq-eqb, ne-eqb}
 use Rattle.octets.specs.Words.{Not}
 use Rattle.sections.specs.Kinds.{leastPayloadOf, leastIn, kindOf, kinds}
 use Rattle.sections.specs.declared.kinds.LeastOf.{LeastOf}
@@ -15,7 +15,7 @@ use Rattle.sections.specs.declared.kinds.LeastOf.the-variants.{Octets, NoHeader
 use Rattle.sections.specs.declared.kinds.MaybeKind.{MaybeKind}
 use Rattle.framing.specs.Search.{says, IsNextStart, nextStart}
 use Rattle.framing.specs.LaidOut.{FirstGrib, sectionOf, statedLength, statedNumber}
-use Rattle.framing.specs.Framing.{refusedAt, indicatorAt, endAt, isCut, payloadAt, headerAt, messageAt, readAt}
+use Rattle.framing.specs.Framing.{refusedAt, indicatorAt, endAt, isCut, missing, payloadAt, headerAt, messageAt, readAt}
 use Rattle.framing.specs.declared.search.Found.{Found}
 use Rattle.framing.specs.declared.search.Found.the-variants.{At, Nowhere}
 use Rattle.framing.specs.declared.read.Section.{Section as Listed}
@@ -28,7 +28,7 @@ use Rattle.framing.proofs.LaidOut.{spells, says-so, first-grib}
 use Rattle.framing.proofs.OneLayout.{one-grib}
 use Rattle.index.specs.Numbers.{faultNumber, faultDetail}
 use Rattle.walk_laws.specs.Rows.{Rows, FirstRow}
-use Rattle.walk_laws.specs.ExactlyWhen.{left, edition, total, rows0, payload, PayloadCut, leastOctets, rowsBehindHeader, InHand, hand0, hand8, behindHeader, NoneInHand, noStart, noOctet, CannotBeRead, WellRead}
+use Rattle.walk_laws.specs.ExactlyWhen.{left, edition, total, rows0, HeaderCut, LengthUnder5, NumberNot1To7, payload, PayloadCut, IndicatorCut, leastOctets, rowsBehindHeader, InHand, hand0, hand8, behindHeader, NoneInHand, noStart, noOctet, CannotBeRead, WellRead}
 use Rattle.walk_laws.proofs.Rows.{first-same, first-holds}
 
 -- what holds of any offset and rows holds of the section in hand
@@ -124,33 +124,46 @@ pub data Tells (file : List ℕ) (at rest : ℕ) : Read → Type 0 where
 
 -- the payload is cut where the test says so, of a section 1 to 7 with its whole header in the file
 cut-is : (n l m : ℕ) → isCut n l m ≡ true → 5 ≤ m → 5 ≤ l → n ≤ 7
-    → (n ≤ 6) × ((m < l) ⊎ ((n ≡ 6) × (l ≡ 5) × (m ≡ 5)))
+    → ((n ≤ 6) × (m < l)) ⊎ ((n ≡ 6) × (l ≡ 5) × (m ≡ 5))
 unfolding isCut
 cut-is n l m e l5 n5 hi = go (eqb n 7) (ltb m l) refl refl e
   where
     go : (b c : Bool) → eqb n 7 ≡ b → ltb m l ≡ c → (not b && (c || (eqb n 6 && ltb m 6))) ≡ true
-        → (n ≤ 6) × ((m < l) ⊎ ((n ≡ 6) × (l ≡ 5) × (m ≡ 5)))
+        → ((n ≤ 6) × (m < l)) ⊎ ((n ≡ 6) × (l ≡ 5) × (m ≡ 5))
     go true c p q h = let y : _≡_ {A = ℕ} 0 1 = cc in absurd (omega arith)
-    go false true p q h = let other = eqb-false n 7 p in (omega arith, inl (ltb-true m l q))
+    go false true p q h = let other = eqb-false n 7 p in inl (omega arith, ltb-true m l q)
     go false false p q h =
         let six = and-both _ _ h in
         let a = eqb-true n 6 (six .0) in
         let b = ltb-true m 6 (six .1) in
         let c = ltb-false m l q in
-        (omega arith, inr (a, omega arith, omega arith))
+        inr (a, omega arith, omega arith)
 
 whole-is : (n l m : ℕ) → isCut n l m ≡ false
-    → Not ((n ≤ 6) × ((m < l) ⊎ ((n ≡ 6) × (l ≡ 5) × (m ≡ 5))))
+    → Not ((n ≤ 6) × (m < l)) × Not ((n ≡ 6) × (m ≡ 5))
 unfolding isCut
-whole-is n l m e (low, why) = go (rw (ne-eqb n 7 (λ z. omega arith)) at e) why
+whole-is n l m e = (past, bare)
   where
-    go : (ltb m l || (eqb n 6 && ltb m 6)) ≡ false → (m < l) ⊎ ((n ≡ 6) × (l ≡ 5) × (m ≡ 5)) → ⊥
-    go f (inl h) = let k = ltb-false m l (or-neither _ _ f .0) in omega arith
-    go f (inr (six, size, ends)) =
-        let k = or-neither (ltb m l) (eqb n 6 && ltb m 6) f .1 in
-        let y : ltb m 6 ≡ false = rw (eq-eqb n 6 six) at k in
-        let z = ltb-false m 6 y in
+    tests : Not (n ≡ 7) → (ltb m l ≡ false) × ((eqb n 6 && ltb m 6) ≡ false)
+    tests other = or-neither _ _ (rw (ne-eqb n 7 other) at e)
+
+    past : Not ((n ≤ 6) × (m < l))
+    past (low, h) = let k = ltb-false m l (tests (λ z. omega arith) .0) in omega arith
+
+    bare : Not ((n ≡ 6) × (m ≡ 5))
+    bare (six, five) =
+        let f : ltb m 6 ≡ false = rw (eq-eqb n 6 six) at (tests (λ z. omega arith) .1) in
+        let z = ltb-false m 6 f in
         omega arith
+
+-- how much is missing of it
+missing-past : (l m : ℕ) → m < l → missing l m ≡ l - m
+unfolding missing
+missing-past l m h = rw (lt-ltb m l h) refl
+
+missing-none-past : (l m : ℕ) → l ≤ m → missing l m ≡ 1
+unfolding missing
+missing-none-past l m h = rw (le-ltb m l h) refl
 
 module _ (file : List ℕ) (at rest : ℕ) where
   abbrev T : Read → Type 0
@@ -197,6 +210,18 @@ module _ (file : List ℕ) (at rest : ℕ) where
       refuses-here : (fault : Fault) → FirstRow (rowsBehindHeader file at rest) (faultNumber fault) (faultDetail fault) → T (refusedAt fault at)
       refuses-here fault first = refuses (behindHeader within not-last inside (refl, first))
 
+      -- the first row of a section whose payload is cut
+      cut-row : Not (HeaderCut file at) → Not (LengthUnder5 file at) → Not (NumberNot1To7 file at) → 1 ≤ statedNumber file at
+          → ((statedNumber file at ≤ 6) × (left file at < statedLength file at))
+          ⊎ ((statedNumber file at ≡ 6) × (statedLength file at ≡ 5) × (left file at ≡ 5))
+          → FirstRow (rowsBehindHeader file at rest) 2 (missing (statedLength file at) (left file at))
+      cut-row no2 no6 no7 low (inl (high, short)) =
+          let count = missing-past (statedLength file at) (left file at) short in
+          inr (no2, inr (no6, inr (no7, inl ((low, high, omega arith), refl, omega arith))))
+      cut-row no2 no6 no7 low (inr (six, size, ends)) =
+          let count = missing-none-past (statedLength file at) (left file at) (omega arith) in
+          inr (no2, inr (no6, inr (no7, inr ((λ h. omega (arith, h .2)), inl ((six, size, omega arith), refl, count)))))
+
       tells-payload : (least : LeastOf) → leastPayloadOf (statedNumber file at) ≡ least → Headed (statedNumber file at) least
           → 5 ≤ left file at → 5 ≤ statedLength file at
           → T (payloadAt least at (statedNumber file at) (statedLength file at) (left file at) rest)
@@ -208,18 +233,18 @@ module _ (file : List ℕ) (at rest : ℕ) where
           let no6 : Not (statedLength file at < 5) = λ h. omega arith in
           let no7 : Not (Not ((1 ≤ statedNumber file at) × (statedNumber file at ≤ 7))) = λ h. h (low, high) in
           by-test T (isCut (statedNumber file at) (statedLength file at) (left file at))
-          (λ e.
-          let c = cut-is _ _ _ e l5 n5 high in
-          refuses-here _ (inr (no2, inr (no6, inr (no7, inl ((low, c .0, c .1), refl, refl)))))) λ e.
-          let no2′ : Not (PayloadCut file at) = λ h. whole-is _ _ _ e (h .1, h .2) in
+          (λ e. refuses-here _ (cut-row no2 no6 no7 low (cut-is _ _ _ e l5 n5 high))) λ e.
+          let whole = whole-is _ _ _ e in
+          let no2′ : Not (PayloadCut file at) = λ h. whole .0 (h .1, omega (arith, h .2)) in
+          let no2″ : Not (IndicatorCut file at) = λ h. whole .1 (h .0, omega (arith, h .1, h .2)) in
           by-test T (ltb (payload file at) least)
-          (λ e. refuses-here _ (inr (no2, inr (no6, inr (no7, inr (no2′, inl (rw same (ltb-true _ _ e), refl, refl))))))) λ e.
+          (λ e. refuses-here _ (inr (no2, inr (no6, inr (no7, inr (no2′, inr (no2″, inl (rw same (ltb-true _ _ e), refl, refl)))))))) λ e.
           let no8 : Not (payload file at < leastOctets (statedNumber file at)) =
           rw same (λ h. let k = ltb-false (payload file at) least e in omega arith) in
           by-test T (ltb rest (statedLength file at))
-          (λ e. refuses-here _ (inr (no2, inr (no6, inr (no7, inr (no2′, inr (no8, inl (ltb-true _ _ e, refl, refl)))))))) λ e.
+          (λ e. refuses-here _ (inr (no2, inr (no6, inr (no7, inr (no2′, inr (no2″, inr (no8, inl (ltb-true _ _ e, refl, refl))))))))) λ e.
           let no9 : Not (rest < statedLength file at) = λ h. let k = ltb-false rest (statedLength file at) e in omega arith in
-          reads (behindHeader within not-last inside (refl, refl, (no2, (no6, (no7, (no2′, (no8, (no9, tt))))))))
+          reads (behindHeader within not-last inside (refl, refl, (no2, (no6, (no7, (no2′, (no2″, (no8, (no9, tt)))))))))
 
       tells-header : T (headerAt file at rest)
       unfolding headerAt faultNumber faultDetail

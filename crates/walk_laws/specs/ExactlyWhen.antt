@@ -77,10 +77,11 @@ EndCut file at = (1 ≤ left file at) × (left file at ≤ 3)
 abbrev pub NotSevens : List ℕ → ℕ → Type 0
 NotSevens file at = Not (Spells file at 55 55 55 55)
 
--- Section 8: 2, 5.
+-- Section 8: 2, 5. The detail of 2 is the count of missing octets (02, Ticket 2), here 4 less what
+-- is left.
 abbrev pub rows8 : List ℕ → ℕ → Rows
 rows8 file at =
-    row 2 (EndCut file at) 0
+    row 2 (EndCut file at) (4 - left file at)
     (row 5 (NotSevens file at) 0
     noMore)
 
@@ -100,13 +101,19 @@ LengthUnder5 file at = statedLength file at < 5
 abbrev pub NumberNot1To7 : List ℕ → ℕ → Type 0
 NumberNot1To7 file at = Not ((1 ≤ statedNumber file at) × (statedNumber file at ≤ 7))
 
--- 2: payload of 1 to 6 cut; and a section 6 of length 5 is 2 if the file ends after its header
+-- where the payload ends, as its header states it
+abbrev pub statedEnd : List ℕ → ℕ → ℕ
+statedEnd file at = at + statedLength file at
+
+-- 2: payload of 1 to 6 cut
 abbrev pub PayloadCut : List ℕ → ℕ → Type 0
 PayloadCut file at =
-    (1 ≤ statedNumber file at)
-    × (statedNumber file at ≤ 6)
-    × ((left file at < statedLength file at)
-    ⊎ ((statedNumber file at ≡ 6) × (statedLength file at ≡ 5) × (left file at ≡ 5)))
+    (1 ≤ statedNumber file at) × (statedNumber file at ≤ 6) × (length file < statedEnd file at)
+
+-- 2: a section 6 of length 5, and the file ends after its header
+abbrev pub IndicatorCut : List ℕ → ℕ → Type 0
+IndicatorCut file at =
+    (statedNumber file at ≡ 6) × (statedLength file at ≡ 5) × (length file ≡ statedEnd file at)
 
 -- 8: payload under its least, of sections 1 to 7: 16, none, 9, 4, 6, 1, none
 abbrev pub leastOctets : ℕ → ℕ
@@ -119,16 +126,18 @@ UnderLeast file at = payload file at < leastOctets (statedNumber file at)
 abbrev pub LongerThanRest : List ℕ → ℕ → ℕ → Type 0
 LongerThanRest file at rest = rest < statedLength file at
 
--- A section with a header: 2 (header), 6, 7, 2 (payload), 8, 9.
+-- A section with a header: 2 (header), 6, 7, 2 (payload), 8, 9. Missing are 5 less what is left for
+-- a header, a payload's stated end less the file's length, 1 for a section 6 of length 5.
 abbrev pub rowsBehindHeader : List ℕ → ℕ → ℕ → Rows
 rowsBehindHeader file at rest =
-    row 2 (HeaderCut file at) 0
+    row 2 (HeaderCut file at) (5 - left file at)
     (row 6 (LengthUnder5 file at) (statedLength file at)
     (row 7 (NumberNot1To7 file at) (statedNumber file at)
-    (row 2 (PayloadCut file at) 0
+    (row 2 (PayloadCut file at) (statedEnd file at - length file)
+    (row 2 (IndicatorCut file at) 1
     (row 8 (UnderLeast file at) (payload file at)
     (row 9 (LongerThanRest file at rest) (statedLength file at)
-    noMore)))))
+    noMore))))))
 
 -- The section in hand where a read is made at `at` with `rest` octets of the message to come: this
 -- is so of it, of the octets of the message behind it, and of its rows.

@@ -1,10 +1,12 @@
 -- Document 01's sample files, as one statement.
 -- Each refusal exactly when its row holds and no row before it does.
 -- Walks that give each of them.
+-- How much is missing of a file that is cut.
 -- What is so of every walk.
 pub mod Samples
 pub mod Rows
 pub mod ExactlyWhen
 pub mod OneStep
 pub mod Witnesses
+pub mod Missing
 pub mod Laws

@@ -1,5 +1,6 @@
--- The samples of 01 ("Sample files"): the starred ones as a single statement over their list, and
--- the others; proofs/Computed.antt has them by computing.
+-- The samples of 01 ("Sample files"), with the details that 02's Ticket 2 gives to those cut to 84
+-- and 81: the starred ones as a single statement over their list, and the others;
+-- proofs/Computed.antt has them by computing.
 use Prim.Native.Nat.{ℕ, _+_}
 use mathlib.Core.Path.{_≡_}
 use mathlib.Core.List.{List, [], _∷_, _++_, map}
@@ -163,7 +164,7 @@ starred =
     (prints 2 (0 ∷ 16 ∷ []) [] 0 (end 12 2 37 4))
     ∷ walks [] (prints 0 [] [] 0 (end 0 0 0 0))
     ∷ walks (take 82 fileA) (prints 7 offsets7 [] 0 (end 10 6 77 0))
-    ∷ walks (take 84 fileA) (prints 7 offsets7 [] 0 (end 2 7 82 0))
+    ∷ walks (take 84 fileA) (prints 7 offsets7 [] 0 (end 2 7 82 2))
     ∷ walks (take 84 (longer7 91)) (prints 7 offsets7 [] 0 (end 10 6 77 0))
     ∷ walks (take 84 (longer7 86)) (prints 6 offsets6 [] 0 (end 9 6 77 10))
     ∷ walks (to7 15 ++ sample8) (prints 0 [] [] 0 (end 4 0 0 0))
@@ -188,7 +189,7 @@ inside7 = before7 172 ++ 0 ∷ 0 ∷ 0 ∷ 91 ∷ 7 ∷ fileA ++ sample8
 unfoldable pub others : List Sample
 others =
     walks (take 15 fileA) (prints 0 [] [] 0 (end 0 0 0 0))
-    ∷ walks (take 81 fileA) (prints 6 offsets6 [] 0 (end 2 6 77 0))
+    ∷ walks (take 81 fileA) (prints 6 offsets6 [] 0 (end 2 6 77 1))
     ∷ walks (take 77 fileA) (prints 6 offsets6 [] 0 (end 10 5 71 0))
     ∷ walks (sample0 16 ++ fileA) (prints 1 (0 ∷ []) [] 0 (end 11 1 16 0))
     ∷ walks inside7

@@ -45,11 +45,16 @@ bare6 =
 
 unfoldable pub witnesses : List Witness
 witnesses =
-    -- 2: a header cut, section 8 cut, a payload cut, a section 6 of length 5 at the end of file
-    ending (take 81 fileA) (end 2 6 77 0)
-    ∷ ending (take 85 fileA) (end 2 7 82 0)
-    ∷ ending (take 50 fileA) (end 2 2 37 0)
-    ∷ ending bare6 (end 2 5 71 0)
+    -- 2, with the octets missing: a header cut, of which 4 and 3 octets are left; section 8 cut; a
+    -- payload cut, to the section's end and not the message's; the longest section 1, of which the
+    -- header is left; a section 6 of length 5 at the end of file
+    ending (take 81 fileA) (end 2 6 77 1)
+    ∷ ending (take 40 fileA) (end 2 2 37 2)
+    ∷ ending (take 85 fileA) (end 2 7 82 1)
+    ∷ ending (take 45 fileA) (end 2 2 37 6)
+    ∷ ending (take 50 fileA) (end 2 2 37 1)
+    ∷ ending (sample0 100 ++ 255 ∷ 255 ∷ 255 ∷ 255 ∷ 1 ∷ []) (end 2 1 16 4294967290)
+    ∷ ending bare6 (end 2 5 71 1)
     -- 3; also where the total length is under 16, and in the second message
     ∷ ending (set fileA 7 3) (end 3 0 0 3)
     ∷ ending (set (sample0 15) 7 1) (end 3 0 0 1)
@@ -71,7 +76,7 @@ witnesses =
     ∷ ending (bare6 ++ 0 ∷ []) (end 8 5 71 0)
     -- 9; and 2 where its payload is cut too
     ∷ ending (sample0 36 ++ sampleSection 1 16) (end 9 1 16 21)
-    ∷ ending (sample0 36 ++ take 20 (sampleSection 1 16)) (end 2 1 16 0)
+    ∷ ending (sample0 36 ++ take 20 (sampleSection 1 16)) (end 2 1 16 1)
     -- 10: after section 0, and after a section 7 with nothing left of its message
     ∷ ending (sample0 16) (end 10 0 0 0)
     ∷ ending (to7 82) (end 10 6 77 0)
@@ -91,7 +96,7 @@ witnesses =
     ∷ endingIn 20 1 twice (end 14 11 113 0)
     -- a full table is none where no more is to be told, nor where the next section can't be read
     ∷ endingIn 8 1 fileA (end 0 0 0 0)
-    ∷ endingIn 7 0 (take 84 fileA) (end 2 7 82 0)
+    ∷ endingIn 7 0 (take 84 fileA) (end 2 7 82 2)
     ∷ []
 
 -- each is refused as it says
