@@ -254,12 +254,12 @@ module _ (file text₀ : List ℕ) (fits : length file ≤ mostOctets) where
           step = p;
           due-of =
               subst (λ (o : Order). DueOf (k .r) s (next .order) (dueBy (completes o (s .number))) (p .q .force) (p .lines)) (k .order)
-              (passes-due (p .moved) (passes-fits file (reading (at .cursor) (k .r .order)) (sees e)));
+              (passes-due (p .moved) (passes-fits file (reading (at .cursor) (k .r .order)) (k .bounded .settled) (sees e)));
         }
     by-seen (seen.Closes s next) e =
         let p = steps.closes file fits (k .r) (at .cursor) (k .bounded) (sees e) in
         let there = reading (at .cursor) (k .r .order) in
-        record { step = p; due-of = closes-due (p .moved) (closes-judged file there (sees e)) (closes-between file there (sees e)) }
+        record { step = p; due-of = closes-due (p .moved) (closes-judged file there (k .bounded .settled) (sees e)) (closes-between file there (sees e)) }
     by-seen (seen.Misplaced s) e = over (steps.misplaced file fits (k .r) (at .cursor) (k .bounded) (sees e) .outcome ∙ rw (k .counted))
     by-seen (seen.NoGrid s) e = over (steps.no-grid file fits (k .r) (at .cursor) (k .bounded) (sees e) .outcome ∙ rw (k .counted))
     by-seen seen.Clean e =

@@ -6,7 +6,7 @@ use native.Mathlib.Omega.{arith}
 use borrow.Author.Tests.{eqb-true, eqb-false, ne-eqb}
 use lib.Dec.{eqb}
 use Rattle.octets.specs.Words.{pick}
-use Rattle.order.specs.Order.{atSubmessageStart, judged, completes, isBetween}
+use Rattle.order.specs.Order.{atSubmessageStart, judged, completes, isBetween, judgedRead}
 use Rattle.order.specs.declared.Order.{Order}
 use Rattle.order.specs.declared.Order.the-variants.{
   BetweenMessages,
@@ -90,6 +90,38 @@ inside AfterBitMap number e = (refl, omega arith)
 inside AfterData number e = (refl, omega arith)
 inside SubmessageStart number e = absurd e
 
+-- what it says of the order that no message is open, or that one is
+abbrev pub Said : Order → Bool → Type 0
+Said order true = order ≡ BetweenMessages
+Said order false = order ≡ BetweenMessages → ⊥
+
+-- a constructor is no other
+pub apart : {a b : Order} → (a ≡ b → _≡_ {A = ℕ} 0 1) → a ≡ b → ⊥
+apart clash e = let z = clash e in omega arith
+
+pub said : (order : Order) → Said order (isBetween order)
+unfolding isBetween
+said BetweenMessages = refl
+said AfterIndicator = apart (λ e. cc)
+said AfterIdentification = apart (λ e. cc)
+said AfterLocalUse = apart (λ e. cc)
+said AfterGrid = apart (λ e. cc)
+said AfterProduct = apart (λ e. cc)
+said AfterRepresentation = apart (λ e. cc)
+said AfterBitMap = apart (λ e. cc)
+said AfterData = apart (λ e. cc)
+said SubmessageStart = apart (λ e. cc)
+
+pub is-between : (order : Order) → isBetween order ≡ true → order ≡ BetweenMessages
+is-between order e = subst (Said order) e (said order)
+
+pub not-between : (order : Order) → (order ≡ BetweenMessages → ⊥) → isBetween order ≡ false
+not-between order inside = go (isBetween order) (said order) refl
+  where
+    go : (t : Bool) → Said order t → isBetween order ≡ t → isBetween order ≡ false
+    go true h e = absurd (inside h)
+    go false h e = e
+
 module _ (order : Order) (number : ℕ) where
   -- which number led to the next state
   pub fits-number : {next : Order} → judged order number ≡ Fits next → ReachedBy next number
@@ -116,6 +148,15 @@ module _ (order : Order) (number : ℕ) where
   pub no-grid-there : (order ≡ AfterIdentification) × (number ≡ 4) → judged order number ≡ NoGrid
   unfolding judged
   no-grid-there e = rw (e .0, e .1)
+
+-- what is read from a file, if that is a section 0 between messages, is judged unasked as it is judged
+pub read-judged : (order : Order) (number : ℕ) → (isBetween order ≡ true → number ≡ 0) → judgedRead order number ≡ judged order number
+unfolding judgedRead judged
+read-judged order number zeroth = go (isBetween order) refl
+  where
+    go : (t : Bool) → isBetween order ≡ t → pick t (Fits AfterIndicator) (judged order number) ≡ judged order number
+    go true between = rw (is-between order between, zeroth between)
+    go false within = refl
 
 -- only after 7, and not by an 8, is a submessage complete
 abbrev Completed : Order → ℕ → Bool → Type 0

@@ -96,6 +96,11 @@ isBetween AfterBitMap = false
 isBetween AfterData = false
 isBetween SubmessageStart = false
 
+-- a section that was read from a file: where a message starts nothing but a section 0 can be read,
+-- and nothing is asked (02, Ticket 11); inside one it is judged
+unfoldable pub judgedRead : Order → ℕ → Judged
+judgedRead order number = pick (isBetween order) (Fits AfterIndicator) (judged order number)
+
 -- a number at a place, and what the order says of those after it
 abbrev pub thenJudged : Judged → ℕ → (Order → Verdict) → Verdict
 thenJudged (Fits next) place later = later next

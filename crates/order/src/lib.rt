@@ -2,7 +2,7 @@
 // knows section numbers only, no file.
 ghost use mathlib.Core.Path.{_≡_};
 ghost use Rattle.order.specs.Order.{only, afterIdentification, atSubmessageStart, judged};
-ghost use Rattle.order.specs.Order.{completes, isBetween, orderOf};
+ghost use Rattle.order.specs.Order.{judgedRead, completes, isBetween, orderOf};
 use sections::BitMap;
 use sections::DataSection;
 use sections::EndSection;
@@ -94,12 +94,15 @@ fn after_data(number: u64) -> Judged
     at_submessage_start(number)
 }
 
-// What a section of this number is, after what was read last.
-pub fn judge(order: Order, number: u64) -> Judged
-    ensures { λ r. ⌜ r ≡ judged order number ⌝ }
+// What a section of this number is that was read from a file, after what was read last. Where a
+// message starts nothing but a section 0 can be read, so nothing is asked.
+pub fn judge_read(order: Order, number: u64) -> Judged
+    ensures { λ r. ⌜ r ≡ judgedRead order number ⌝ }
 {
+    if between_messages(order) {
+        return Judged::Fits(Order::AfterIndicator);
+    }
     match order {
-        Order::BetweenMessages => only(number, Indicator::NUMBER, Order::AfterIndicator),
         Order::AfterIndicator => only(number, Identification::NUMBER, Order::AfterIdentification),
         Order::AfterIdentification => after_identification(number),
         Order::AfterLocalUse => only(number, GridDefinition::NUMBER, Order::AfterGrid),
@@ -108,8 +111,19 @@ pub fn judge(order: Order, number: u64) -> Judged
         Order::AfterRepresentation => only(number, BitMap::NUMBER, Order::AfterBitMap),
         Order::AfterBitMap => only(number, DataSection::NUMBER, Order::AfterData),
         Order::AfterData => after_data(number),
-        Order::SubmessageStart => at_submessage_start(number),
+        _ => at_submessage_start(number),
     }
+}
+
+// What a number of a bare list is, after what was read last. Any number can stand where a message
+// starts, and there only 0 fits.
+pub fn judge(order: Order, number: u64) -> Judged
+    ensures { λ r. ⌜ r ≡ judged order number ⌝ }
+{
+    if between_messages(order) {
+        return only(number, Indicator::NUMBER, Order::AfterIndicator);
+    }
+    judge_read(order, number)
 }
 
 // Does a well-read section first complete the submessage before it?

@@ -138,6 +138,7 @@ module _ {M : Type 1} where
     framing-framed-at = by 1 (to-read 0 tt (number w8) ∷ by-value plain-Cursor ∷ []) (λ n. refl) (λ 𝓤 H A content run κs a. tt) framing.framed_at.Met.met (λ n r e. id⊢ (n .memory) _);
     framing-next-start = by 1 (to-read 0 tt (number w8) ∷ by-value (plain-number w64) ∷ []) (λ n. refl) (λ 𝓤 H A content run κs a. tt) framing.next_start.Met.met (λ n r e. fact-mono (n .memory) _ _ (next-start-is (now (n .arguments .0)) (n .arguments .1 .0) r));
     order-judge = by 0 (by-value plain-Order ∷ by-value (plain-number w64) ∷ []) (λ n. refl) (λ 𝓤 H A content run κs a. tt) order.judge.Met.met (λ n r e. id⊢ (n .memory) _);
+    order-judge-read = by 0 (by-value plain-Order ∷ by-value (plain-number w64) ∷ []) (λ n. refl) (λ 𝓤 H A content run κs a. tt) order.judge_read.Met.met (λ n r e. id⊢ (n .memory) _);
     order-completing = by 0 (by-value plain-Order ∷ by-value (plain-number w64) ∷ []) (λ n. refl) (λ 𝓤 H A content run κs a. tt) order.completing.Met.met (λ n r e. id⊢ (n .memory) _);
     order-between-messages = by 0 (by-value plain-Order ∷ []) (λ n. refl) (λ 𝓤 H A content run κs a. tt) order.between_messages.Met.met (λ n r e. id⊢ (n .memory) _);
     order-judge-all = by 1 (to-read 0 tt (number w64) ∷ []) (λ n. refl) (λ 𝓤 H A content run κs a. tt) order.judge_all.Met.met (λ n r e. id⊢ (n .memory) _);

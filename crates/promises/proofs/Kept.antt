@@ -9,6 +9,7 @@ use Rattle.walk_laws.proofs.Computed.{starred-hold, others-hold, witnesses-hold
 use Rattle.walk_laws.proofs.WholeWalk.{is-clean, walk-refused-exactly-when, walk-clean-exactly-when}
 use Rattle.walk_laws.proofs.OneStep.{one-step-exactly-when}
 use Rattle.walk_laws.proofs.Missing.{how-much-is-missing}
+use Rattle.walk_laws.proofs.Starts.{where-messages-start}
 use Rattle.walk_laws.proofs.Messages.{closed-messages-are-tiled, each-end-closes-a-message, messages-are-ends, no-end-at-place-0}
 use Rattle.walk_laws.proofs.Counts.{unlimited-is-never-full}
 use Rattle.walk_laws.proofs.Unlimited.{begins-the-unlimited, held-is-unlimited}
@@ -55,6 +56,7 @@ demand-2 =
       walk-ends-clean = walk-clean-exactly-when;
       one-step = one-step-exactly-when;
       missing = how-much-is-missing;
+      starts = where-messages-start;
       starred = starred-hold;
       others = others-hold;
       each-refusal = witnesses-hold;

@@ -16,6 +16,7 @@ use Rattle.walk_laws.specs.OneStep.{OneStepExactlyWhen}
 use Rattle.walk_laws.specs.Samples as samples
 use Rattle.walk_laws.specs.Witnesses as witnesses
 use Rattle.walk_laws.specs.Missing.{HowMuchIsMissing}
+use Rattle.walk_laws.specs.Starts.{WhereMessagesStart}
 use Rattle.walk_laws.specs.Laws as laws
 use Rattle.as_the_crate.specs.Equal as rust
 use Rattle.as_the_crate.specs.Overflow.{OverflowsExactlyWhen}
@@ -59,8 +60,8 @@ pub record Demand2 : Type 0 where
   pub walk-ends-clean : exactly.WalkCleanExactlyWhen
   pub one-step : OneStepExactlyWhen
   pub missing : HowMuchIsMissing  -- 02, Ticket 2: 2 tells an octet at least; each that comes counts
-  -- document 01's samples, and walks that give each refusal
-  pub starred : samples.StarredHold
+  pub starts : WhereMessagesStart  -- 02, Ticket 11: with 0 in every file; 11 is given inside alone
+  pub starred : samples.StarredHold  -- document 01's samples, and walks that give each refusal
   pub others : samples.OthersHold
   pub each-refusal : witnesses.WitnessesHold
   -- closed messages are tiled by their sections, every section 8 closes one, and they are counted
@@ -92,9 +93,8 @@ pub record Demand2 : Type 0 where
   pub numbers-are-the-rust's : rust.WalkNumbersEqualsTheRust
   pub pull-is-the-rust's : rust.PullEqualsTheRust
   pub rust-overflows : OverflowsExactlyWhen
-  -- every accepted plan is a message of the Rust's, and it writes the same octets
-  pub writes-as-the-rust : WritesAsTheRust
-  pub every-plan-nested : EveryAcceptedPlanIsNested
+  pub writes-as-the-rust : WritesAsTheRust  -- the same octets of every accepted plan,
+  pub every-plan-nested : EveryAcceptedPlanIsNested  -- which is a message of the Rust's
 
 -- 3. Two files of one length that differ only in values octets give equal lines, fields and end
 -- answer; on a clean walk the same public copy, which walks to that answer and differs from its

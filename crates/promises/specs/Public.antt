@@ -59,7 +59,7 @@ use Rattle.sections.specs.BitMap.{bitMapOf}
 use Rattle.products.specs.Products.{productOf}
 use Rattle.framing.specs.Framing.{framed, readAt}
 use Rattle.framing.specs.Search.{nextStart}
-use Rattle.order.specs.Order.{judged, completes, isBetween, orderOf}
+use Rattle.order.specs.Order.{judged, judgedRead, completes, isBetween, orderOf}
 use Rattle.index.specs.Lines.{opened, inForce, withSubmessage, lineOf, unlisted}
 use Rattle.index.specs.Numbers.{endOf, stored, unplaced}
 use Rattle.reading.specs.Reading.{start, seen}
@@ -145,6 +145,8 @@ pub record PublicFunctions (M : Type 1) : Type 2 where
   -- order: which section may come next
   pub order-judge : Gives M 0 (value Order.the-row ∷ value u64 ∷ []) order.judge.clauses
       order.judge.Symbol.routine (λ (order, (number, _)). judged order number)
+  pub order-judge-read : Gives M 0 (value Order.the-row ∷ value u64 ∷ []) order.judge_read.clauses
+      order.judge_read.Symbol.routine (λ (order, (number, _)). judgedRead order number)
   pub order-completing : Gives M 0 (value Order.the-row ∷ value u64 ∷ []) order.completing.clauses
       order.completing.Symbol.routine (λ (order, (number, _)). completes order number)
   pub order-between-messages : Gives M 0 (value Order.the-row ∷ []) order.between_messages.clauses

@@ -31,7 +31,7 @@ use Rattle.publish.specs.Passed.{passedBy}
 use Rattle.publish.specs.declared.Passed.{Passed}
 use Rattle.publish.specs.declared.Passed.the-variants as passed
 use Rattle.reading.proofs.Untabled as steps
-use Rattle.reading.proofs.Untabled.{toldOn, Bounded, Passes, first-told}
+use Rattle.reading.proofs.Untabled.{toldOn, Passes, first-told, first-bounded}
 use Rattle.publish.proofs.Messages.{from-told, left, left-first, left-over, left-behind, left-here}
 use Rattle.publish.proofs.Turns.{unclean, OnWay, sees, whole}
 
@@ -120,15 +120,12 @@ module _ (file d₀ : List ℕ) (fits : length file ≤ mostOctets) where
   unfolding stayed
   copying-first clean =
       record {
-        way = record { r = atStart; order = refl; bounded = w; comes = ap (λ (t : Told). t .outcome) (sym (first-told file fits)) ∙ clean };
+        way = record { r = atStart; order = refl; bounded = first-bounded file; comes = ap (λ (t : Told). t .outcome) (sym (first-told file fits)) ∙ clean };
         here = refl;
         inside = omega arith;
         written = wrote-none 0 d₀;
         to-come = λ k h. left-first file (walked unlimited file .sections) k ∙ rw (first-told file fits);
       }
-    where
-      w : Bounded file atStart (start .cursor)
-      w = record { sections = omega arith; lines = omega arith; inside = omega arith }
 
   -- a turn that passes a section
   module _ {at : Reading} {done : ℕ} {d : List ℕ} (before : Copying file d₀ at done d) {s : Section} {next : Reading}

@@ -6,7 +6,7 @@ use Prim.Native.Nat.{ℕ}
 use lib.Dec.{ltb, leb}
 use lib.ListN.{length}
 use Rattle.octets.specs.Words.{pick}
-use Rattle.order.specs.Order.{judged, completes, isBetween}
+use Rattle.order.specs.Order.{judged, judgedRead, completes, isBetween}
 use Rattle.order.specs.declared.Order.{Order}
 use Rattle.order.specs.declared.Order.the-variants.{SubmessageStart}
 use Rattle.order.specs.declared.Judged.{Judged}
@@ -48,6 +48,7 @@ use Rattle.reading.specs.Reading as spec
 use Rattle.reading.specs.declared.Reading.{Reading}
 use Rattle.reading.specs.declared.Seen.{Seen}
 use Rattle.reading.specs.declared.Seen.the-variants.{Passes, Closes, Misplaced, NoGrid, Clean, InputOver, Unreadable}
+use Rattle.reading.proofs.Between.{as-judged}
 
 -- what a walk tells from a cursor on
 unfoldable pub toldFrom : List ℕ → Room → Reached → Cursor → Told
@@ -131,21 +132,25 @@ module _ (file : List ℕ) (room : Room) (r : Reached) where
   by-over false e = refl
 
   by-read : (next : Read)
+      → ((s : Section) (cursor : Cursor) → next ≡ read.Section s cursor → judgedRead (r .order) (s .number) ≡ judged (r .order) (s .number))
       → walkedFrom room r (listedBy next (listingOn file) .sections) (listedBy next (listingOn file) .ending)
       ≡ toldBy file room r (spec.seenByRead next (r .order))
   unfolding walkedFrom concluded toldFrom toldBy spec.seenByRead spec.overIn
-  by-read (read.Section s cursor) =
+  by-read (read.Section s cursor) same =
       ap (λ (j : Judgement). followed r s j (λ r′. toldFrom file room r′ cursor)) (judges room r s _ refl)
       ∙ by-order s cursor (judged (r .order) (s .number)) refl
-  by-read read.Over = by-over (isBetween (r .order)) refl
-  by-read (read.Refused fault offset) = refl
+      ∙ ap (λ (j : Judged). toldBy file room r (spec.seenByOrder j s cursor)) (sym (same s cursor refl))
+  by-read read.Over same = by-over (isBetween (r .order)) refl
+  by-read (read.Refused fault offset) same = refl
 
   -- what a walk tells from a cursor on is what is seen there, and what it tells from there on
-  pub told-next : (cursor : Cursor) → toldFrom file room r cursor ≡ toldBy file room r (spec.seen file (spec.reading cursor (r .order)))
+  pub told-next : (cursor : Cursor) → spec.Settled (spec.reading cursor (r .order))
+      → toldFrom file room r cursor ≡ toldBy file room r (spec.seen file (spec.reading cursor (r .order)))
   unfolding spec.seen toldFrom
-  told-next cursor =
+  told-next cursor settled =
       ap (λ (l : Listing). walkedFrom room r (l .sections) (l .ending)) (listing-next file (cursor .at .0) (cursor .rest))
       ∙ by-read (readAt file (cursor .at .0) (cursor .rest))
+      (λ s next e. as-judged file (spec.reading cursor (r .order)) settled e)
 
 -- the walk of a file is that from its start on, unless the file is over 2^40 octets
 pub told-start : (file : List ℕ) (room : Room)

@@ -26,22 +26,34 @@ use Rattle.index.specs.declared.refusal.Outcome.{Outcome}
 use Rattle.index.specs.declared.refusal.Outcome.the-variants.{Clean, Refused}
 use Rattle.index.specs.Bounds.{mostOctets, unlimited}
 use Rattle.index.specs.Walk.{Reached, atStart, here, goneOn, fitted, closing, Told, walked}
-use Rattle.reading.specs.Reading.{reading, start, seen}
+use Rattle.reading.specs.Reading.{reading, start, Settled, seen}
 use Rattle.reading.specs.declared.Reading.{Reading}
 use Rattle.reading.specs.declared.Seen.{Seen}
 use Rattle.reading.specs.declared.Seen.the-variants as seen
-use Rattle.reading.proofs.Moves.{Stands, passes-reads, passes-stands, passes-fits, closes-reads, closes-stands, closes-between, closes-judged}
+use Rattle.reading.proofs.Moves.{
+  Stands,
+  passes-reads,
+  passes-stands,
+  passes-fits,
+  passes-settled,
+  closes-reads,
+  closes-stands,
+  closes-between,
+  closes-judged,
+  closes-settled,
+}
 use Rattle.reading.proofs.Told.{toldFrom, toldBy, told-next, told-start}
 
 -- what the walk tells from here on
 abbrev pub toldOn : List ℕ → Reached → Cursor → Told
 toldOn file r cursor = toldFrom file unlimited r cursor
 
--- no more sections than octets, no more lines than sections
+-- no more sections than octets, no more lines than sections, and between messages nothing of one to come
 pub record Bounded (file : List ℕ) (r : Reached) (cursor : Cursor) : Type 0 where
   pub sections : r .sections ≤ cursor .at .0
   pub lines : r .lines ≤ r .sections
   pub inside : r .sections ≤ length file
+  pub settled : Settled (reading cursor (r .order))
 
 -- what is in force behind a section that is passed, and the lines told because of it: none; that of a submessage whose message goes on; the
 -- last of its message
@@ -79,14 +91,14 @@ pub first-told : (file : List ℕ) → length file ≤ mostOctets → walked unl
 first-told file fits = told-start file unlimited ∙ simp (le-ltb _ _ fits)
 
 pub first-bounded : (file : List ℕ) → Bounded file atStart (start .cursor)
-first-bounded file = record { sections = omega arith; lines = omega arith; inside = omega arith }
+first-bounded file = record { sections = omega arith; lines = omega arith; inside = omega arith; settled = λ between. refl }
 
 module _ (file : List ℕ) (fits : length file ≤ mostOctets) (r : Reached) (cursor : Cursor) (bounded : Bounded file r cursor) where
   abbrev Sees : Seen → Type 0
   Sees v = seen file (reading cursor (r .order)) ≡ v
 
   tells : {v : Seen} → Sees v → toldOn file r cursor ≡ toldBy file unlimited r v
-  tells e = told-next file unlimited r cursor ∙ ap (toldBy file unlimited r) e
+  tells e = told-next file unlimited r cursor (bounded .settled) ∙ ap (toldBy file unlimited r) e
 
   rows : leb (unlimited .rows) (r .sections) ≡ false
   rows = lt-leb (unlimited .rows) (r .sections) (omega (arith, bounded .inside, fits))
@@ -110,14 +122,20 @@ module _ (file : List ℕ) (fits : length file ≤ mostOctets) (r : Reached) (cu
           order = refl;
           placed = refl;
           last = refl;
-          bounded = record { sections = omega (arith, bounded .sections, stands .forward, stands .later); lines = omega (arith, bounded .lines); inside = omega (arith, bounded .sections, stands .inside) };
+          bounded =
+              record {
+                sections = omega (arith, bounded .sections, stands .forward, stands .later);
+                lines = omega (arith, bounded .lines);
+                inside = omega (arith, bounded .sections, stands .inside);
+                settled = passes-settled file (reading cursor (r .order)) (bounded .settled) e;
+              };
           is-read = reads-as file (cursor .at .0) (cursor .rest) (passes-reads file (reading cursor (r .order)) e);
-          between = λ b. absurd (never-both b (fits-open (r .order) (s .number) (passes-fits file (reading cursor (r .order)) e)));
+          between = λ b. absurd (never-both b (fits-open (r .order) (s .number) (passes-fits file (reading cursor (r .order)) (bounded .settled) e)));
           sections = ap (λ (t : Told). t .sections) (tells e) ∙ rw (c, lines, rows);
           outcome = ap (λ (t : Told). t .outcome) (tells e) ∙ rw (c, lines, rows);
           lines = lineOf (r .force) (place 0) ∷ [];
           lined = refl;
-          moved = on-completing c (passes-fits file (reading cursor (r .order)) e);
+          moved = on-completing c (passes-fits file (reading cursor (r .order)) (bounded .settled) e);
           lines-told = ap (λ (t : Told). t .lines) (tells e) ∙ rw (c, lines, rows);
         }
     passing false c e =
@@ -133,14 +151,20 @@ module _ (file : List ℕ) (fits : length file ≤ mostOctets) (r : Reached) (cu
           order = refl;
           placed = refl;
           last = refl;
-          bounded = record { sections = omega (arith, bounded .sections, stands .forward, stands .later); lines = omega (arith, bounded .lines); inside = omega (arith, bounded .sections, stands .inside) };
+          bounded =
+              record {
+                sections = omega (arith, bounded .sections, stands .forward, stands .later);
+                lines = omega (arith, bounded .lines);
+                inside = omega (arith, bounded .sections, stands .inside);
+                settled = passes-settled file (reading cursor (r .order)) (bounded .settled) e;
+              };
           is-read = reads-as file (cursor .at .0) (cursor .rest) (passes-reads file (reading cursor (r .order)) e);
-          between = λ b. absurd (never-both b (fits-open (r .order) (s .number) (passes-fits file (reading cursor (r .order)) e)));
+          between = λ b. absurd (never-both b (fits-open (r .order) (s .number) (passes-fits file (reading cursor (r .order)) (bounded .settled) e)));
           sections = ap (λ (t : Told). t .sections) (tells e) ∙ rw (c, rows);
           outcome = ap (λ (t : Told). t .outcome) (tells e) ∙ rw (c, rows);
           lines = [];
           lined = omega arith;
-          moved = on-within c (passes-fits file (reading cursor (r .order)) e);
+          moved = on-within c (passes-fits file (reading cursor (r .order)) (bounded .settled) e);
           lines-told = ap (λ (t : Told). t .lines) (tells e) ∙ rw (c, rows);
         }
 
@@ -159,14 +183,20 @@ module _ (file : List ℕ) (fits : length file ≤ mostOctets) (r : Reached) (cu
           order = refl;
           placed = refl;
           last = refl;
-          bounded = record { sections = omega (arith, bounded .sections, stands .forward, stands .later); lines = omega (arith, bounded .lines); inside = omega (arith, bounded .sections, stands .inside) };
+          bounded =
+              record {
+                sections = omega (arith, bounded .sections, stands .forward, stands .later);
+                lines = omega (arith, bounded .lines);
+                inside = omega (arith, bounded .sections, stands .inside);
+                settled = closes-settled file (reading cursor (r .order)) (bounded .settled) e;
+              };
           is-read = reads-as file (cursor .at .0) (cursor .rest) (closes-reads file (reading cursor (r .order)) e);
-          between = λ b. closes-only (r .order) (s .number) (closes-judged file (reading cursor (r .order)) e) .1;
+          between = λ b. closes-only (r .order) (s .number) (closes-judged file (reading cursor (r .order)) (bounded .settled) e) .1;
           sections = ap (λ (t : Told). t .sections) (tells e) ∙ rw (rows, lines, closes-between file (reading cursor (r .order)) e);
           outcome = ap (λ (t : Told). t .outcome) (tells e) ∙ rw (rows, lines, closes-between file (reading cursor (r .order)) e);
           lines = lineOf (r .force) (place (r .sections)) ∷ [];
           lined = refl;
-          moved = on-closing (closes-judged file (reading cursor (r .order)) e);
+          moved = on-closing (closes-judged file (reading cursor (r .order)) (bounded .settled) e);
           lines-told = ap (λ (t : Told). t .lines) (tells e) ∙ rw (rows, lines, closes-between file (reading cursor (r .order)) e);
         }
 

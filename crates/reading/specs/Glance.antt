@@ -1,6 +1,6 @@
 -- Machinery: a section with a header that fits and is whole, seen at a glance.
-use Prim.Native.Nat.{ℕ, _-_, _≤_, _<_}
-use mathlib.Core.Bool.{Bool, true, false}
+use Prim.Native.Nat.{ℕ, _-_, _≤_}
+use mathlib.Core.Bool.{Bool, true}
 use mathlib.Core.Path.{_≡_}
 use mathlib.Core.List.{List}
 use lib.Dec.{eqb}
@@ -11,7 +11,7 @@ use Rattle.framing.specs.Framing.{sectionAt, payloadAt, readAt}
 use Rattle.framing.specs.declared.read.Section.{Section}
 use Rattle.framing.specs.declared.read.Cursor.{Cursor}
 use Rattle.framing.specs.Read as read
-use Rattle.order.specs.Order.{judged, completes}
+use Rattle.order.specs.Order.{judgedRead}
 use Rattle.order.specs.declared.Order.{Order}
 use Rattle.order.specs.declared.Order.the-variants.{
   AfterIndicator,
@@ -48,11 +48,9 @@ WholeAhead number len left answer =
     → payloadAt (leastPayloadOf number) at number len left rest
     ≡ sectionAt number at len (rest - len))
 
--- a section of this number fits the order, and completes no submessage before it
+-- a section of this number fits the order
 pub record Fitting (order : Order) (number : ℕ) : Type 0 where
-  pub fits : judged order number ≡ Fits (lastRead number)
-  pub completing : completes order number ≡ false
-  pub kept : number < kinds.endSection .number
+  pub fits : judgedRead order number ≡ Fits (lastRead number)
 
 unfoldable pub Usual : Order → ℕ → Bool → Type 0
 Usual order number answer = answer ≡ true → Fitting order number
@@ -71,8 +69,7 @@ pub record PassingAhead
 pub record ClosingAhead
     (file : List ℕ) (cursor : Cursor) (order : Order) (s : Section) (next : Cursor) : Type 0 where
   pub reads : ReadAs file cursor s next
-  pub closes : judged order (s .number) ≡ Closes
-  pub completing : completes order (s .number) ≡ false
+  pub closes : judgedRead order (s .number) ≡ Closes
 
 -- what holds of a section that was seen
 unfoldable pub Glanced : (Section → Cursor → Type 0) → Ahead → Type 0

@@ -1,6 +1,8 @@
 -- The next section of a file, read and judged (01, "Framing" and "Order"). No table, no line and no
 -- count has a say in it.
 use Prim.Native.Nat.{ℕ}
+use mathlib.Core.Bool.{true}
+use mathlib.Core.Path.{_≡_}
 use mathlib.Core.List.{List}
 use Rattle.octets.specs.Words.{pick}
 use Rattle.framing.specs.Framing.{readAt}
@@ -8,7 +10,7 @@ use Rattle.framing.specs.declared.read.Section.{Section}
 use Rattle.framing.specs.declared.read.Cursor.{Cursor}
 use Rattle.framing.specs.Read.{Read}
 use Rattle.framing.specs.Read as read
-use Rattle.order.specs.Order.{judged, isBetween}
+use Rattle.order.specs.Order.{judgedRead, isBetween}
 use Rattle.order.specs.declared.Order.{Order}
 use Rattle.order.specs.declared.Order.the-variants.{BetweenMessages}
 use Rattle.order.specs.declared.Judged.{Judged}
@@ -32,6 +34,10 @@ reading cursor order = record { cursor = cursor; order = order }
 abbrev pub start : Reading
 start = reading (record { at = record { 0 = 0 }; rest = 0 }) BetweenMessages
 
+-- between messages nothing of a message is to come: so it is of every reading that a walk comes to
+abbrev pub Settled : Reading → Type 0
+Settled r = isBetween (r .order) ≡ true → r .cursor .rest ≡ 0
+
 -- a well-read section, by what the order says of it
 unfoldable pub seenByOrder : Judged → Section → Cursor → Seen
 seenByOrder (order.Fits next) s cursor = Passes s (reading cursor next)
@@ -43,9 +49,9 @@ seenByOrder order.NoGrid s cursor = NoGrid s
 unfoldable pub overIn : Order → Seen
 overIn before = pick (isBetween before) Clean InputOver
 
--- by what is read
+-- by what is read; at a settled reading between messages that is a section 0
 unfoldable pub seenByRead : Read → Order → Seen
-seenByRead (read.Section s cursor) before = seenByOrder (judged before (s .number)) s cursor
+seenByRead (read.Section s cursor) before = seenByOrder (judgedRead before (s .number)) s cursor
 seenByRead read.Over before = overIn before
 seenByRead (read.Refused fault offset) before = Unreadable fault offset
 

@@ -1,7 +1,7 @@
 -- A walk that fills lent tables, over any form of a line: so many elements of a table to a line. What is to come, put onto what stands in
 -- the tables, stays the same from section to section.
 use mathlib.Core.Path.{_≡_, refl, sym, ap, _∙_}
-use mathlib.Core.Bool.{Bool, true, false}
+use mathlib.Core.Bool.{Bool, true, false, false≢true}
 use mathlib.Core.List.{List, [], _∷_, _++_, append-nil}
 use Prim.Native.Nat.{ℕ, _+_, _*_, _/_, _≤_, _<_}
 use native.Mathlib.Nat.{add-zero, zero-add, add-assoc, add-mul, zero-mul, one-mul, mul-le-mul-right}
@@ -10,7 +10,7 @@ use lib.Dec.{ltb, leb, eqb}
 use lib.ListN.{length}
 use borrow.Author.Tests.{lt-ltb, le-ltb, le-leb, lt-leb}
 use Rattle.octets.specs.Words.{pick}
-use Rattle.order.specs.Order.{completes}
+use Rattle.order.specs.Order.{completes, isBetween}
 use Rattle.order.specs.declared.Place.{Place}
 use Rattle.order.specs.declared.Order.the-variants.{SubmessageStart}
 use Rattle.framing.specs.declared.read.Section.{Section}
@@ -30,11 +30,11 @@ use Rattle.index.specs.Walk.{Reached, atStart, here, Judgement, fitted, closing
 use Rattle.standing.specs.Tables.{rowsOf, storedOver}
 use Rattle.standing.specs.Put.{putAt}
 use Rattle.standing.proofs.Put.{put-none, put-more, put-length, put-stored}
-use Rattle.reading.specs.Reading.{reading, start, seen}
+use Rattle.reading.specs.Reading.{reading, start, Settled, seen}
 use Rattle.reading.specs.declared.Reading.{Reading}
 use Rattle.reading.specs.declared.Seen.{Seen}
 use Rattle.reading.specs.declared.Seen.the-variants.{Passes, Closes, Misplaced, NoGrid, Clean, InputOver, Unreadable}
-use Rattle.reading.proofs.Moves.{closes-between, seen-again}
+use Rattle.reading.proofs.Moves.{passes-settled, closes-between, closes-settled, seen-again}
 use Rattle.reading.proofs.Told.{toldFrom, toldBy, told-next, told-start}
 
 -- by cases on a test, for two choices
@@ -158,6 +158,11 @@ pub none : (number : ℕ) → completes SubmessageStart number ≡ false
 unfolding completes
 none number = refl
 
+-- at a submessage's start a message is open
+started : (cursor : Cursor) → Settled (reading cursor SubmessageStart)
+unfolding isBetween
+started cursor e = absurd (false≢true e)
+
 -- what the loop keeps, with room for so many lines
 module _ {A : Type 0} (width : ℕ) (encode : Line → List A) (wide : (l : Line) → length (encode l) ≡ width) (file rows₀ : List ℕ)
     (lines₀ : List A) (most : ℕ) (enough : most * width ≤ length lines₀) where
@@ -182,13 +187,15 @@ module _ {A : Type 0} (width : ℕ) (encode : Line → List A) (wide : (l : Line
       (ap (λ (i : ℕ). putAt i (encoded width encode wide (told .lines)) lines₀) (zero-mul width)
       ∙ put-stored (encoded width encode wide (told .lines)) lines₀)
 
-  -- what is to come, put onto what stands, is what the walk means; no message and no submessage is without a line
+  -- what is to come, put onto what stands, is what the walk means; no message and no submessage is without a line; between messages nothing of
+  -- one is to come
   pub record Kept (r : Reached) (cursor : Cursor) (rows : List ℕ) (lines : List A) : Type 0 where
     pub same-rows : length rows ≡ length rows₀
     pub same-lines : length lines ≡ length lines₀
     pub comes : out width encode wide r (toldFrom file room r cursor) rows lines ≡ meant
     pub messages : r .force .message ≤ r .lines
     pub submessages : r .force .submessage ≤ r .lines
+    pub settled : Settled (reading cursor (r .order))
 
   pub begins : length file ≤ mostOctets → Kept atStart (start .cursor) rows₀ lines₀
   begins short =
@@ -198,6 +205,7 @@ module _ {A : Type 0} (width : ℕ) (encode : Line → List A) (wide : (l : Line
         comes = ap (λ (t : Told). out width encode wide atStart t rows₀ lines₀) (sym (told-start file room ∙ simp (le-ltb _ _ short)));
         messages = omega arith;
         submessages = omega arith;
+        settled = λ between. refl;
       }
 
   pub too-long : mostOctets < length file
@@ -214,7 +222,7 @@ module _ {A : Type 0} (width : ℕ) (encode : Line → List A) (wide : (l : Line
     by : {v : Seen} → seen file (reading cursor (r .order)) ≡ v → meant ≡ out width encode wide r (toldBy file room r v) rows lines
     by e =
         sym (kept .comes)
-        ∙ ap (λ (t : Told). out width encode wide r t rows lines) (told-next file room r cursor ∙ ap (toldBy file room r) e)
+        ∙ ap (λ (t : Told). out width encode wide r t rows lines) (told-next file room r cursor (kept .settled) ∙ ap (toldBy file room r) e)
 
     ends-by : {v : Seen} {end : Outcome} → seen file (reading cursor (r .order)) ≡ v → toldBy file room r v ≡ ends end → Ends end
     ends-by {end = end} e f = by e ∙ ap (λ (t : Told). out width encode wide r t rows lines) f ∙ out-ends width encode wide r end rows lines
@@ -305,6 +313,7 @@ module _ {A : Type 0} (width : ℕ) (encode : Line → List A) (wide : (l : Line
               ∙ out-section width encode wide r s 0 (toldFrom file room q (next .cursor)) rows lines q refl refl (message ∙ sym (add-zero _)) (in-rows free));
           messages = rw message (kept .messages);
           submessages = rw submessage (kept .submessages);
+          settled = passes-settled file (reading cursor (r .order)) (kept .settled) e;
         }
       where
         q : Reached
@@ -341,6 +350,7 @@ module _ {A : Type 0} (width : ℕ) (encode : Line → List A) (wide : (l : Line
               ∙ out-line width encode wide q₁ l later rows′ lines q refl refl refl (in-lines line));
           messages = omega (arith, kept .messages);
           submessages = omega arith;
+          settled = closes-settled file (reading cursor (r .order)) (kept .settled) e;
         }
       where
         l : Line
@@ -377,6 +387,7 @@ module _ {A : Type 0} (width : ℕ) (encode : Line → List A) (wide : (l : Line
               ∙ out-line width encode wide r l (toldFrom file room (goneOn r) cursor) rows lines (goneOn r) refl refl refl (in-lines free));
           messages = omega (arith, kept .messages);
           submessages = omega (arith, kept .submessages);
+          settled = started cursor;
         }
       where
         l : Line
@@ -395,7 +406,7 @@ module _ {A : Type 0} (width : ℕ) (encode : Line → List A) (wide : (l : Line
             rw (c, lt-leb _ _ free)
             (split
             ∙ ap (lineFirst width encode wide l)
-            (sym (told-next file room (goneOn r) cursor ∙ ap (toldBy file room (goneOn r)) (seen-again file cursor (r .order) e c))))
+            (sym (told-next file room (goneOn r) cursor (started cursor) ∙ ap (toldBy file room (goneOn r)) (seen-again file cursor (r .order) e c))))
 
     -- .. also where the section after it is refused with 11
     pub misplaced-line : {s : Section} → seen file (reading cursor (r .order)) ≡ Misplaced s → completes (r .order) (s .number) ≡ true

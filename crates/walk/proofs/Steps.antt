@@ -14,11 +14,11 @@ use Rattle.order.specs.declared.Place.{Place}
 use Rattle.index.specs.Lines.{place, inForce}
 use Rattle.index.specs.declared.bounds.Room.{Room}
 use Rattle.index.specs.declared.line.LocalUsePlace.{LocalUsePlace}
-use Rattle.reading.specs.Reading.{seen}
+use Rattle.reading.specs.Reading.{Settled, seen}
 use Rattle.reading.specs.declared.Reading.{Reading}
 use Rattle.reading.specs.declared.Seen.{Seen}
 use Rattle.reading.specs.declared.Seen.the-variants.{Passes, Closes, Misplaced, NoGrid, Clean, InputOver, Unreadable}
-use Rattle.reading.proofs.Moves.{passes-stands, passes-kept}
+use Rattle.reading.proofs.Moves.{passes-stands, passes-kept, passes-settled}
 use Rattle.walk.specs.declared.lines.Only.{Only}
 use Rattle.walk.specs.declared.lines.Only.the-variants.{Row, More}
 use Rattle.standing.specs.declared.Standing.{Standing}
@@ -99,11 +99,13 @@ pub record Stepping (file rows₀ : List ℕ) (lines : ℕ) (room : Room) (befor
   pub comes : stepsOf file room most (resumedOf before at local places) rows ≡ stepOf file lines before rows₀
   pub room-is : room ≡ roomOf (length rows₀) lines
   pub same-rows : length rows ≡ length rows₀
+  pub settled : Settled (at .reading)
 
-pub begins : (file rows₀ : List ℕ) (lines : ℕ) (before : Tally)
+pub begins : (file rows₀ : List ℕ) (lines : ℕ) (before : Tally) → Settled (before .reading)
     → Stepping file rows₀ lines (roomOf (length rows₀) lines) before (standingOf before) (before .force .local) (before .force .places) rows₀
 unfolding stepOf stepsOf turnOf
-begins file rows₀ lines before = record { most = suc (length file); enough = omega arith; comes = refl; room-is = refl; same-rows = refl }
+begins file rows₀ lines before settled =
+    record { most = suc (length file); enough = omega arith; comes = refl; room-is = refl; same-rows = refl; settled = settled }
 
 module _ {file rows₀ : List ℕ} {lines : ℕ} {room : Room} {before : Tally} {at : Standing} {local : LocalUsePlace} {places : List Place} {rows : List ℕ}
     (so-far : Stepping file rows₀ lines room before at local places rows) where
@@ -133,7 +135,7 @@ module _ {file rows₀ : List ℕ} {lines : ℕ} {room : Room} {before : Tally} 
     what = alone room at (seen file (at .reading)) (l .is)
 
     pub kept-number : s .number < 8
-    kept-number = passes-kept file (at .reading) (what .sees)
+    kept-number = passes-kept file (at .reading) (so-far .settled) (what .sees)
 
     pub falls : length file - next .cursor .at .0 < length file - at .reading .cursor .at .0
     falls =
@@ -152,6 +154,7 @@ module _ {file rows₀ : List ℕ} {lines : ℕ} {room : Room} {before : Tally} 
           comes = next-is ∙ sym (goes-on file room (so-far .most - 1) (resumedOf before at local places) rows (l .is)) ∙ comes;
           room-is = so-far .room-is;
           same-rows = row-length (at .sections) s rows ∙ so-far .same-rows;
+          settled = passes-settled file (at .reading) (so-far .settled) (what .sees);
         })
       where
         next-is : stepsOf file room (so-far .most - 1) (resumedOf before (passedRow at s next) local′ places′) (rowPut (at .sections) s rows)

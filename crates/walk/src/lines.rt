@@ -1,5 +1,6 @@
 // The loop over the lent tables.
 ghost use mathlib.Core.Path.{_≡_};
+ghost use Rattle.reading.specs.Reading.{Settled};
 ghost use Rattle.walk.specs.Tables.{walkOf};
 ghost use Rattle.walk.specs.Turns.{rowsAfter, linesAfter, rowOnly, stepOf, concludedOf};
 use crate::tally::Tally;
@@ -74,6 +75,7 @@ fn row_only(room: Room, at: Standing, seen: Seen) -> Only
 // variables: to hand on the tally, some forty words, at each section would make the walk more than
 // three times as dear.
 fn step(file: &[u8], rows: &mut [u64], lines: usize, before: Tally) -> Tally
+    requires { ⌜ Settled (before .reading) ⌝ }
     ensures tally { λ r. ⌜ r
         ≡ stepOf (now (file .entry)) lines before (now (rows .entry)) .tally ⌝ }
     ensures table { λ _. ⌜ now (rows .exit)

@@ -11,6 +11,7 @@ pub mod Induction
 pub mod Messages
 pub mod Counts
 pub mod Places
+pub mod Starts
 pub mod Unlimited
 pub mod Missing
 pub mod Computed

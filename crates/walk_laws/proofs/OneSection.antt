@@ -26,7 +26,7 @@ use Rattle.order.specs.declared.Order.the-variants.{
 }
 use Rattle.order.specs.declared.Judged.{Judged}
 use Rattle.order.specs.declared.Judged.the-variants as says
-use Rattle.order.proofs.Laws.{completes-only, completes-there, starts-next}
+use Rattle.order.proofs.Laws.{apart, completes-only, completes-there, starts-next}
 use Rattle.index.specs.declared.line.Line.{Line}
 use Rattle.index.specs.Numbers.{refusalNumber, refusalDetail}
 use Rattle.index.specs.declared.refusal.Refusal.{Refusal}
@@ -73,10 +73,6 @@ stands-only at next n k leads is only first last =
     by-test (Stands at n) (eqb n k)
     (λ e. let z = eqb-true n k e in fits (rw z leads) (is z) (λ h. first (h .0)) (λ h. last (h .0))) λ e.
     misplaced (λ h. eqb-false n k e (only h)) (λ h. first (h .0))
-
--- a constructor is no other
-pub apart : {a b : Order} → (a ≡ b → _≡_ {A = ℕ} 0 1) → Not (a ≡ b)
-apart clash e = let z = clash e in omega arith
 
 pub stands : (at : Order) (n : ℕ) → Stands at n (judged at n)
 unfolding judged

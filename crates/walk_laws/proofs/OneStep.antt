@@ -20,12 +20,12 @@ use Rattle.order.specs.declared.Judged.{Judged}
 use Rattle.order.specs.declared.Judged.the-variants as says
 use Rattle.order.specs.declared.Verdict.{Verdict}
 use Rattle.order.specs.declared.Verdict.the-variants as verdict
+use Rattle.order.proofs.Laws.{Said, said, not-between}
 use Rattle.index.specs.Numbers.{faultNumber, faultDetail}
 use Rattle.walk_laws.specs.ExactlyWhen.{CannotBeRead, WellRead, NoneInHand, CanCome, NoGridYet, ClosesMessage, orderAfter}
 use Rattle.walk_laws.specs.OneStep.{aSection, noInput, refusedBy, readNumbers, fitsBefore, judgedNumbers, JudgedByRows, OrderEnd, orderEnd, orderEndOf, ComeInOrder, noNumber, oneMore, OrderGiven, inOrder, overInside, misplacedThere, noGridThere, ReadByRows, OneStepExactlyWhen}
 use Rattle.walk_laws.proofs.OneRead.{Tells, refuses, reads, over, tells, refused-there, section-there, none-read}
 use Rattle.walk_laws.proofs.OneSection.{Stands, fits, closes, misplaced, noGrid, stands}
-use Rattle.walk_laws.proofs.WholeWalk.{Said, said, not-between}
 
 pub one-read : (file : List ℕ) (at rest : ℕ) → ReadByRows file at rest (readNumbers (readAt file at rest))
 unfolding readNumbers

@@ -13,13 +13,12 @@ use Rattle.order.specs.Order.{judged, completes, isBetween}
 use Rattle.order.specs.declared.Order.the-variants.{AfterData, SubmessageStart}
 use Rattle.order.specs.declared.Judged.{Judged}
 use Rattle.order.specs.declared.Judged.the-variants as says
-use Rattle.order.proofs.Laws.{fits-below, fits-open, closes-only, completes-only}
+use Rattle.order.proofs.Laws.{apart, fits-below, fits-open, closes-only, completes-only}
 use Rattle.index.specs.Lines.{place, lineOf}
 use Rattle.index.specs.declared.line.Line.{Line}
 use Rattle.index.specs.declared.refusal.Refusal.{Refusal}
 use Rattle.index.specs.declared.bounds.Room.{Room}
 use Rattle.index.specs.Walk.{Reached, Judgement, stops, passes, here, fitted, closing, byOrder, goneOn, judgement}
-use Rattle.walk_laws.proofs.OneSection.{apart}
 
 -- a section inside its message, with the line of a submessage that goes on or with none; or the one that closes it
 pub data Way (r : Reached) (s : Section) : List Line → ℕ → Reached → Type 0 where

@@ -16,8 +16,10 @@ use Rattle.framing.specs.Read as read
 use Rattle.index.specs.declared.bounds.Room.{Room}
 use Rattle.index.specs.Walk.{Reached, Judgement, Told, followed, walked}
 use Rattle.walk_laws.specs.ExactlyWhen.{
+  WellRead,
   rowsAfterRead,
   Stand,
+  Comes,
   NotTooLong,
   Given,
   tooLong,
@@ -34,18 +36,18 @@ use Rattle.walk_laws.proofs.WholeWalk.{on, after, on-next, walked-on, w
 use Rattle.walk_laws.proofs.Passing.{passing}
 use Rattle.walk_laws.proofs.Counts.{to-9}
 
-abbrev unread-section : Section
+abbrev pub unread-section : Section
 unread-section = record { number = 0; offset = record { 0 = 0 }; length = 0 }
 
 -- what is told before a stand
-record Before (told : List Section) (r : Reached) (rest : List Section) : Type 0 where
-  done : List Section
-  whole : told ≡ done ++ rest
-  count : length done ≡ r .sections
-  last : 1 ≤ r .sections → (r .last .place .0 + 1 ≡ r .sections) × (getD done (r .last .place .0) unread-section ≡ r .last .section)
+pub record Before (told : List Section) (r : Reached) (rest : List Section) : Type 0 where
+  pub done : List Section
+  pub whole : told ≡ done ++ rest
+  pub count : length done ≡ r .sections
+  pub last : 1 ≤ r .sections → (r .last .place .0 + 1 ≡ r .sections) × (getD done (r .last .place .0) unread-section ≡ r .last .section)
 
 module _ (room : Room) (file : List ℕ) (short : NotTooLong file) where
-  before : {at rest : ℕ} {r : Reached} → WalksTo room file at rest r
+  pub before : {at rest : ℕ} {r : Reached} → WalksTo room file at rest r
       → Before (walked room file .sections) r (on room file at rest r .sections)
   before fromStart =
       record {
@@ -88,6 +90,19 @@ module _ (room : Room) (file : List ℕ) (short : NotTooLong file) where
       → after room file r x .sections ≡ [] → r .sections ≡ length (walked room file .sections)
   all-counted c x e none = sym (ap length (all-told c x e none) ∙ before c .count)
 
+  -- so it is where a section that was read is refused
+  pub refused-told : {b : Stand} {s : Section} {rest′ n d : ℕ} (c : Comes room file b) → WellRead file (b .at) (b .rest) s rest′
+      → FirstRow (rowsAfterRead room b (s .number)) n d → walked room file .sections ≡ before (comes-walks-to c .reaches) .done
+  refused-told {b} {s} {rest′} {n} {d} c well first =
+      let at = comes-walks-to c in
+      let r = at .reached in
+      let k =
+      stopped-there room r s n d
+      (subst (λ (b : Stand). FirstRow (rowsAfterRead room b (s .number)) n d) (sym (at .stood)) first) in
+      let cursor : Cursor = record { at = record { 0 = s .offset .0 + s .length }; rest = rest′ } in
+      all-told (at .reaches) (read.Section s cursor) (section-there file (b .at) (b .rest) s rest′ well)
+      (ap (λ (j : Judgement). followed r s j (λ reached. on room file (cursor .at .0) (cursor .rest) reached) .sections) (k .halts))
+
 place-of : (room : Room) (file : List ℕ) (n p o d : ℕ) → Given room file n p o d → Not (n ≡ 1) → Not (n ≡ 10)
     → p ≡ length (walked room file .sections)
 place-of room file _ _ _ _ (tooLong long) one ten = absurd (one refl)
@@ -96,16 +111,10 @@ place-of room file n _ o d (unread {b} short c u) one ten =
     let at = comes-walks-to c in
     sym (ap (λ (b : Stand). b .sections) (at .stood)) ∙ all-counted room file short (at .reaches) (refusedAt (k .fault) o) (k .refuses) refl
 place-of room file _ _ _ _ (inputOver short c none other last) one ten = absurd (ten refl)
-place-of room file n _ _ d (misjudged {b} {s} {rest′} short c well first) one ten =
+place-of room file n _ _ d (misjudged short c well first) one ten =
     let at = comes-walks-to c in
-    let r = at .reached in
-    let k =
-    stopped-there room r s n d
-    (subst (λ (b : Stand). FirstRow (rowsAfterRead room b (s .number)) n d) (sym (at .stood)) first) in
-    let cursor : Cursor = record { at = record { 0 = s .offset .0 + s .length }; rest = rest′ } in
     sym (ap (λ (b : Stand). b .sections) (at .stood))
-    ∙ all-counted room file short (at .reaches) (read.Section s cursor) (section-there file (b .at) (b .rest) s rest′ well)
-    (ap (λ (j : Judgement). followed r s j (λ reached. on room file (cursor .at .0) (cursor .rest) reached) .sections) (k .halts))
+    ∙ sym (ap length (refused-told room file short c well first) ∙ before room file short (at .reaches) .count)
 
 pub place-is-count : PlaceIsCount
 place-is-count room file n p o d zeroth one ten e =

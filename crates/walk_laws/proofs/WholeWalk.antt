@@ -17,19 +17,8 @@ use Rattle.framing.specs.Read as read
 use Rattle.framing.proofs.OneRead.{reads-as, goes}
 use Rattle.framing.proofs.Listing.{listingOn, listing-next, listing-is}
 use Rattle.order.specs.Order.{isBetween}
-use Rattle.order.specs.declared.Order.{Order}
-use Rattle.order.specs.declared.Order.the-variants.{
-  BetweenMessages,
-  AfterIndicator,
-  AfterIdentification,
-  AfterLocalUse,
-  AfterGrid,
-  AfterProduct,
-  AfterRepresentation,
-  AfterBitMap,
-  AfterData,
-  SubmessageStart,
-}
+use Rattle.order.specs.declared.Order.the-variants.{BetweenMessages}
+use Rattle.order.proofs.Laws.{Said, said, not-between}
 use Rattle.index.specs.Lines.{place}
 use Rattle.index.specs.Numbers.{refusalNumber, refusalDetail, endOf}
 use Rattle.index.specs.declared.numbers.End.{End}
@@ -56,7 +45,7 @@ use Rattle.walk_laws.specs.ExactlyWhen.{
   WalkCleanExactlyWhen,
 }
 use Rattle.walk_laws.proofs.OneRead.{Tells, refuses, reads, over, tells, refused-there, section-there, none-read}
-use Rattle.walk_laws.proofs.OneSection.{Judges, halts, goes as passes-on, judges, stopped-there, apart}
+use Rattle.walk_laws.proofs.OneSection.{Judges, halts, goes as passes-on, judges, stopped-there}
 use Rattle.walk_laws.proofs.WalksTo.{WalksTo, fromStart, stepOn, walks-to-comes, comes-walks-to, last-there, read-so}
 
 -- the walk from a place and a rest on
@@ -96,31 +85,6 @@ walks-to-on room file short (stepOn {at} {rest} {r = r} {s = s} {cursor = cursor
     ∙ ap (λ (t : Told). t .outcome) (on-next room file at rest r)
     ∙ ap (λ (x : Read). after room file r x .outcome) well
     ∙ ap (λ (j : Judgement). followed r s j (λ reached. on room file (cursor .at .0) (cursor .rest) reached) .outcome) passed
-
--- between messages
-abbrev pub Said : Order → Bool → Type 0
-Said order true = order ≡ BetweenMessages
-Said order false = Not (order ≡ BetweenMessages)
-
-pub said : (order : Order) → Said order (isBetween order)
-unfolding isBetween
-said BetweenMessages = refl
-said AfterIndicator = apart (λ e. cc)
-said AfterIdentification = apart (λ e. cc)
-said AfterLocalUse = apart (λ e. cc)
-said AfterGrid = apart (λ e. cc)
-said AfterProduct = apart (λ e. cc)
-said AfterRepresentation = apart (λ e. cc)
-said AfterBitMap = apart (λ e. cc)
-said AfterData = apart (λ e. cc)
-said SubmessageStart = apart (λ e. cc)
-
-pub not-between : (order : Order) → Not (order ≡ BetweenMessages) → isBetween order ≡ false
-not-between order other = go (isBetween order) (said order) refl
-  where
-    go : (t : Bool) → Said order t → isBetween order ≡ t → isBetween order ≡ false
-    go true h e = absurd (other h)
-    go false h e = e
 
 module _ (room : Room) (file : List ℕ) (short : length file ≤ 1099511627776) where
   -- how a walk may end

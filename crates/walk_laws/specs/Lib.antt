@@ -3,6 +3,7 @@
 -- Walks that give each of them.
 -- How much is missing of a file that is cut.
 -- What is so of every walk.
+-- That a message starts with section 0 in every file.
 pub mod Samples
 pub mod Rows
 pub mod ExactlyWhen
@@ -10,3 +11,4 @@ pub mod OneStep
 pub mod Witnesses
 pub mod Missing
 pub mod Laws
+pub mod Starts

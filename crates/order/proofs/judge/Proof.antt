@@ -1,44 +1,22 @@
--- `judge` meets its contract: in each arm the order is the arm's, and its answer is what the callee ensures.
-use mathlib.Core.Path.{_∙_}
+-- `judge` meets its contract: between messages a section 0 alone fits, and inside one the callee says.
+use mathlib.Core.Path.{sym, _∙_}
 use borrow.Author.Needs.{needs}
-use Rattle.order.specs.Order.{judged}
+use Rattle.order.specs.Order.{judged, judgedRead}
+use Rattle.order.proofs.Laws.{is-between}
 use Rattle.order.proofs.judge.Statement.{statement}
 use Rattle.order.proofs.judge.Tie as tie
 
 pub judge-spec : {M : Type 1} → statement M
-unfolding judged
+unfolding judged judgedRead
 judge-spec =
     tie.close
     (tie.spec
-    -- the calls
-    (λ c. search needs)
     (λ c κs. search needs)
-    (λ c. search needs)
     (λ c κs. search needs)
-    (λ c. search needs)
+    (λ c.
+    let taken = c .before in
+    c .only .ensures ∙ rw (is-between _ (sym (taken .before .between-messages .ensures) ∙ taken .if1 .taken)))
     (λ c κs. search needs)
-    (λ c. search needs)
-    (λ c κs. search needs)
-    (λ c. search needs)
-    (λ c κs. search needs)
-    (λ c. search needs)
-    (λ c κs. search needs)
-    (λ c. search needs)
-    (λ c κs. search needs)
-    (λ c. search needs)
-    (λ c κs. search needs)
-    (λ c. search needs)
-    (λ c κs. search needs)
-    (λ c. search needs)
-    (λ c κs. search needs)
-    -- the returns
-    (λ c. c .only .ensures ∙ rw (c .before .enum-told .given .1))
-    (λ c. c .only2 .ensures ∙ rw (c .before .enum-told2 .given .1))
-    (λ c. c .after-identification .ensures ∙ rw (c .before .enum-told3 .given .1))
-    (λ c. c .only3 .ensures ∙ rw (c .before .enum-told4 .given .1))
-    (λ c. c .only4 .ensures ∙ rw (c .before .enum-told5 .given .1))
-    (λ c. c .only5 .ensures ∙ rw (c .before .enum-told6 .given .1))
-    (λ c. c .only6 .ensures ∙ rw (c .before .enum-told7 .given .1))
-    (λ c. c .only7 .ensures ∙ rw (c .before .enum-told8 .given .1))
-    (λ c. c .after-data .ensures ∙ rw (c .before .enum-told9 .given .1))
-    (λ c. c .at-submessage-start .ensures ∙ rw (c .before .enum-told10 .given .1)))
+    (λ c.
+    let left = c .before in
+    c .judge-read .ensures ∙ rw (sym (left .before .between-messages .ensures) ∙ left .if1 .left)))

@@ -29,7 +29,7 @@ row c =
     N.lone (turn-of c .loop .inv) (asked .before .glance .ensures) (asked .row-only .ensures) (c .only .given .1)
 
 loop-holds : tie.Need-loop-holds Inv-loop μ-loop
-loop-holds c = rw (c .before .standing-of .ensures) (N.begins _ _ _ _)
+loop-holds c = rw (c .before .standing-of .ensures) (N.begins _ _ _ _ (c .before .before .before .before .before .pre))
 
 loop-less : tie.Need-loop-less Inv-loop μ-loop
 loop-less c =

@@ -341,7 +341,7 @@ module _ {M : Type 1} (𝓤 : URA M) (H : Heap 𝓤) (A : Atoms 𝓤) (W : Given
             (from ! (stop !)) (init ! 8 refl (tt, (tt, (record { fits = room₁ .0 }, tt)))) $
             use1 W (later (raw (C #step passed₁ After₁)))
             (Q.steps 𝓤 H A W mem run κ₀ κ₁ q₀ q₁ file v₀ (named 1) b₁ o₁ γ₁ (length rows) room₁ (t .rows) (t .len₁)
-            (length (t .lines)) room-fits (t .tally) (t .tally-is) C fm known-step) $ await ! tt $
+            (length (t .lines)) room-fits (t .tally) (t .tally-is) C fm known-step (t .held .on going .settled)) $ await ! tt $
             calls-from ! fm (raw (C #step passed₁ After₁)) passed₁ After₁ (id⊢ 𝓤 _)
             (and-then ! (load ! (from ! (stop !)) (look ! 22 refl)) (and-then ! (load ! (from ! (stop !)) (look ! 8 refl))
             (and-then ! (load ! (from ! (stop !)) (look ! 16 refl))

@@ -150,11 +150,13 @@ loop-again c =
 
 mul-places : tie.Need-mul-places Inv-loop μ-loop
 mul-places c =
-    omega (arith, passes-kept _ _ (passing (c .before .before .before .before .before .before .before .before .before .before) .sees))
+    let p = passing (c .before .before .before .before .before .before .before .before .before .before) in
+    omega (arith, passes-kept _ _ (p .kept .settled) (p .sees))
 
 array-set-from-places : tie.Need-array-set-from-places Inv-loop μ-loop
 array-set-from-places c =
-    passes-kept _ _ (passing (c .before .before .before .before .before .before .before .before .before .before) .sees)
+    let p = passing (c .before .before .before .before .before .before .before .before .before .before) in
+    passes-kept _ _ (p .kept .settled) (p .sees)
 
 loop-less-2 : tie.Need-loop-less-2 Inv-loop μ-loop
 loop-less-2 c =
@@ -167,7 +169,7 @@ loop-again-2 c =
     let joined = c .before .before .before .before .before .before .before .before .before .before in
     let p = passing joined in
     N.passed _ _ _ p (omega (arith, c .before .before .before .before .before .before .before .if4 .left, rows-room (turn-of (joined .before)))) (rows-fit (turn-of (joined .before)))
-    (in-force-kept (joined .if2 .at) _ _ _ _ (c .if5 .left) (passes-kept _ _ (p .sees))) (c .before .before .passed-row .ensures) (c .before .before .before .before .before .put-row .ensures)
+    (in-force-kept (joined .if2 .at) _ _ _ _ (c .if5 .left) (passes-kept _ _ (p .kept .settled) (p .sees))) (c .before .before .passed-row .ensures) (c .before .before .before .before .before .put-row .ensures)
 
 same-length-5 : tie.Need-same-length-5 Inv-loop μ-loop
 same-length-5 c =
