@@ -5,7 +5,10 @@
 #include <stddef.h>
 #include <stdint.h>
 
-enum { ROW = 3, LINE = 12, ENTRY = 13 };
+enum { ROW = 3, LINE = 15, ENTRY = 13 };
+
+/* Numbers of a line, as include/buttresk.h has them. There are nine places. */
+enum { MESSAGE, SUBMESSAGE, HAS_LOCAL, CLOSED, PLACES, OFFSET = PLACES + 9, TOTAL };
 
 /* Memory that is lent to a walk. */
 struct tables {

@@ -90,15 +90,14 @@ static enum outcome read_other(struct walk *w, struct section *s)
     return length > w->rest ? LONGER_THAN_REST : READ;
 }
 
-static int store_line(struct walk *w, uint64_t end_place)
+static int store_line(struct walk *w)
 {
     if (w->line_room <= w->done.submessages) {
         return 0;
     }
-    w->line[11] = end_place;
     memcpy(w->tables.lines + w->done.submessages * LINE, w->line, sizeof w->line);
     w->done.submessages++;
-    w->line[1]++;
+    w->line[SUBMESSAGE]++;
     return 1;
 }
 
@@ -109,7 +108,7 @@ static const uint16_t can_follow[9] = {
 
 static enum outcome take(struct walk *w, struct section s)
 {
-    if (w->last == 7 && s.number != 8 && !store_line(w, 0)) {
+    if (w->last == 7 && s.number != 8 && !store_line(w)) {
         return LINES_FULL;
     }
     if ((can_follow[w->last] >> s.number & 1) == 0) {
@@ -119,15 +118,19 @@ static enum outcome take(struct walk *w, struct section s)
     if (w->row_room <= place) {
         return ROWS_FULL;
     }
+    w->line[PLACES + s.number] = place;
     if (s.number == 8) {
-        if (!store_line(w, place)) {
+        w->line[CLOSED] = 1;
+        if (!store_line(w)) {
             return LINES_FULL;
         }
         memset(w->line, 0, sizeof w->line);
-        w->line[0] = ++w->done.messages;
+        w->line[MESSAGE] = ++w->done.messages;
+    } else if (s.number == 0) {
+        w->line[OFFSET] = s.offset;
+        w->line[TOTAL] = w->rest;
     } else {
-        w->line[3 + s.number] = place;
-        w->line[2] |= s.number == 2;
+        w->line[HAS_LOCAL] |= s.number == 2;
     }
     uint64_t *row = w->tables.rows + place * ROW;
     row[0] = s.number;

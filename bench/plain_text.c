@@ -33,14 +33,14 @@ static uint8_t *put_before(uint8_t *end, struct field f)
 
 static void fields_of(const uint8_t *file, const uint64_t *rows, const uint64_t *line, struct field f[9])
 {
-    const uint64_t *zero = rows + line[3] * ROW, *four = rows + line[7] * ROW;
+    const uint64_t *four = rows + line[PLACES + 4] * ROW;
     const uint8_t *payload = file + four[1] + 5;
     uint64_t size = four[2] - 5;
     int supported = big_endian(payload + 2, 2) <= 15;
-    f[0] = (struct field){1, line[0]};
-    f[1] = (struct field){1, line[1]};
-    f[2] = (struct field){1, zero[1]};
-    f[3] = (struct field){1, file[zero[1] + 6]};
+    f[0] = (struct field){1, line[MESSAGE]};
+    f[1] = (struct field){1, line[SUBMESSAGE]};
+    f[2] = (struct field){1, line[OFFSET]};
+    f[3] = (struct field){1, file[line[OFFSET] + 6]};
     f[4] = (struct field){supported && size > 4, payload[4]};
     f[5] = (struct field){supported && size > 5, payload[5]};
     f[6] = (struct field){supported && size >= 17, payload[12]};

@@ -53,7 +53,7 @@ static void fill_surface(struct cell *cells, bool known, const struct buttresk_s
 static void fill_message(struct cell *cells, const struct submessage *s)
 {
     cells[0] = unsigned_cell(true, s->offset);
-    cells[1] = unsigned_cell(s->indicator.known, s->indicator.total);
+    cells[1] = unsigned_cell(true, s->length);
     cells[2] = unsigned_cell(s->indicator.known, s->indicator.discipline);
     cells[3] = unsigned_cell(s->identification.known, s->identification.centre);
     cells[4] = unsigned_cell(s->identification.known, s->identification.subcentre);

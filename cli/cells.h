@@ -13,6 +13,7 @@ struct submessage {
     uint64_t message;
     uint64_t submessage;
     uint64_t offset; /* of the message */
+    uint64_t length; /* of the message, as it states */
     struct buttresk_indicator_fields indicator;
     struct buttresk_identification_fields identification;
     struct buttresk_grid_fields grid;

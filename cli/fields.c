@@ -49,7 +49,8 @@ static void decode(void *with)
     struct part four = part_of(d, 4, HEADER), five = part_of(d, 5, HEADER), six = part_of(d, 6, HEADER);
     s->message = d->line[MESSAGE];
     s->submessage = d->line[SUBMESSAGE];
-    s->offset = (uint64_t)(zero.octets - d->source->octets);
+    s->offset = d->line[OFFSET];
+    s->length = d->line[TOTAL];
     s->indicator = buttresk_indicator(zero.octets, zero.size);
     s->identification = buttresk_identification(one.octets, one.size);
     s->grid = buttresk_grid_definition(three.octets, three.size);

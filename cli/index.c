@@ -1,4 +1,4 @@
-/* `index`: what gribwalk prints (document 01, "Sample files"), of files of any size. */
+/* `index`: what gribwalk prints (01, "Sample files"; 02, Ticket 7), of files of any size. */
 #include <inttypes.h>
 #include <stdio.h>
 
@@ -6,17 +6,25 @@
 #include "source.h"
 #include "tables.h"
 
+/* Two places can be none: there may be no section 2, and the message may go on. */
+static void print_place(const uint64_t *line, int number)
+{
+    if (number == 2 && line[HAS_LOCAL] == 0) {
+        fputs(" -", stdout);
+    } else if (number == 8 && line[CLOSED] == 0) {
+        fputs(" open", stdout);
+    } else {
+        printf(" %" PRIu64, line[PLACES + number]);
+    }
+}
+
 static void print_line(const uint64_t *line)
 {
     printf("%" PRIu64 ".%" PRIu64, line[MESSAGE], line[SUBMESSAGE]);
     for (int number = 0; number <= 8; number++) {
-        if (number == 2 && line[HAS_LOCAL] == 0) {
-            fputs(" -", stdout);
-        } else {
-            printf(" %" PRIu64, line[PLACES + number]);
-        }
+        print_place(line, number);
     }
-    putchar('\n');
+    printf(" %" PRIu64 " %" PRIu64 "\n", line[OFFSET], line[TOTAL]);
 }
 
 static void print_index(const struct tables *t)

@@ -5,8 +5,8 @@
 
 #include "growing.h"
 
-/* Some 24 and 12 KiB. If one is full both are made twice as large. A submessage has four sections of its own at least and nine at most, so
-   neither table is much larger than it need be. */
+/* Some 24 and 15 KiB. If one is full both are made twice as large. A submessage has four sections
+   of its own at least and nine at most, so neither table is much larger than it need be. */
 enum { FIRST_ROWS = 1024, FIRST_LINES = 128 };
 
 static_assert(sizeof(size_t) == 8, "a table's size in bytes has to fit: a file of 2^40 octets has under 2^38 sections");

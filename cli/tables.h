@@ -24,8 +24,9 @@ struct row {
     uint64_t length;
 };
 
-/* Columns of a line of the submessage table, as include/buttresk.h lays it out. */
-enum column { MESSAGE, SUBMESSAGE, HAS_LOCAL, PLACES };
+/* Columns of a line of the submessage table, as include/buttresk.h lays it out. There are nine
+   places, and the message's offset and total length stand behind them. */
+enum column { MESSAGE, SUBMESSAGE, HAS_LOCAL, CLOSED, PLACES, OFFSET = PLACES + 9, TOTAL };
 
 /* Says its own reason, and answers false, if the file could not be walked to an answer. The answer may be a refusal, of 13 and 14 neither.
    The tables are to be freed either way. */

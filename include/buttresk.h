@@ -72,7 +72,7 @@ enum buttresk_outcome {
 
 /* Numbers of a row of the section table, of a line of the submessage table, of a section of a plan, and of an entry of a list. */
 #define BUTTRESK_ROW 3
-#define BUTTRESK_LINE 12
+#define BUTTRESK_LINE 15
 #define BUTTRESK_PART 3
 #define BUTTRESK_ENTRY 13
 
@@ -92,11 +92,15 @@ struct buttresk_walk_answer {
  *
  * Reads `file`; writes `rows`, as many numbers as `row_numbers` says, and `lines`, as many as `line_numbers` says.
  *   A row is 3 numbers: section number, offset, length (16 for section 0, 4 for section 8, else as its header states).
- *   A line is 12 numbers: message and submessage (each from 0), 1 or 0 for whether there is a section 2, then the places in the section
- *   list of sections 0 to 8, nine of them. The third of the nine, section 2's, says nothing where there is none. The ninth is 0 where
- *   the message goes on after this submessage; a true section 8 never has place 0.
- * A remainder under 3, or under 12, is no room. Rows and lines that were stored before a refusal stand, those of a refused section are not
- * stored, and all room beyond the counts of the answer is left as it was.
+ *   A line is 15 numbers: message and submessage (each from 0); 1 or 0 for whether there is a
+ *   section 2; 1 or 0 for whether a section 8 closes the message behind this submessage, 0 where
+ *   the message goes on; nine places in the section list, of sections 0 to 8; the message's octet
+ *   offset; its total length as its section 0 states it, however large, up to 2^64 - 1. Of the nine
+ *   places the third, section 2's, says nothing where there is no section 2, and the ninth,
+ *   section 8's, says nothing where the message goes on: each is then 0.
+ * A remainder under 3, or under 15, is no room. Rows and lines that were stored before a refusal
+ * stand, those of a refused section are not stored, and all room beyond the counts of the answer is
+ * left as it was.
  *
  * Refusals: 1 to 14. A section 7 may run past the end of file, and is then listed; every other listed section lies inside it.
  */

@@ -73,8 +73,9 @@ static int counted(struct buttresk_walk_answer a, uint64_t sections, uint64_t su
     return a.sections == sections && a.submessages == submessages && a.messages == messages;
 }
 
-/* Room for 8 rows and 1 line, with a remainder; 99 stands where nothing is stored. */
-enum { ROWS = 8 * BUTTRESK_ROW + 2, LINES = BUTTRESK_LINE + 11 };
+/* Room for 8 rows and 1 line, with remainders that are one number short of another; 99 stands where
+   nothing is stored. */
+enum { ROWS = 8 * BUTTRESK_ROW + 2, LINES = BUTTRESK_LINE + 14 };
 static uint64_t rows[ROWS], lines[LINES];
 
 static struct buttresk_walk_answer walk(const uint8_t *octets, size_t size, size_t row_numbers, size_t line_numbers)
@@ -91,22 +92,26 @@ static struct buttresk_walk_answer walk(const uint8_t *octets, size_t size, size
 static void walks(void)
 {
     static const uint64_t a_rows[ROWS] = {0, 0, 16, 1, 16, 21, 3, 37, 14, 4, 51, 9, 5, 60, 11, 6, 71, 6, 7, 77, 5, 8, 82, 4, 99, 99};
-    static const uint64_t a_line[BUTTRESK_LINE] = {0, 0, 0, 0, 1, 0, 2, 3, 4, 5, 6, 7};
+    /* message, submessage; no section 2; closed; nine places; offset, total length */
+    static const uint64_t a_line[15] = {0, 0, 0, 1, 0, 1, 0, 2, 3, 4, 5, 6, 7, 0, 86};
     struct file a = sample_a();
     struct buttresk_walk_answer r = walk(a.octets, a.size, ROWS, LINES);
     EXPECT(a.size == 86);
     EXPECT(counted(r, 8, 1, 1) && ended(r, BUTTRESK_DONE, 0, 0, 0));
     EXPECT(memcmp(rows, a_rows, sizeof a_rows) == 0);
     EXPECT(memcmp(lines, a_line, sizeof a_line) == 0);
-    EXPECT(lines[BUTTRESK_LINE] == 99 && lines[LINES - 1] == 99);
+    EXPECT(lines[15] == 99 && lines[LINES - 1] == 99);
 
-    /* a remainder is no room: 7 rows and 2 numbers, 11 numbers of a line */
+    /* a remainder is no room: 7 rows and 2 numbers, 14 numbers of a line */
     r = walk(a.octets, a.size, 23, LINES);
     EXPECT(counted(r, 7, 0, 0) && ended(r, BUTTRESK_SECTION_TABLE_FULL, 7, 82, 0));
     EXPECT(rows[21] == 99 && rows[22] == 99 && lines[0] == 99);
-    r = walk(a.octets, a.size, ROWS, 11);
+    r = walk(a.octets, a.size, ROWS, 14);
     EXPECT(counted(r, 7, 0, 0) && ended(r, BUTTRESK_SUBMESSAGE_TABLE_FULL, 7, 82, 0));
     EXPECT(lines[0] == 99);
+    r = walk(a.octets, a.size, ROWS, 15);
+    EXPECT(counted(r, 8, 1, 1) && ended(r, BUTTRESK_DONE, 0, 0, 0));
+    EXPECT(lines[14] == 86 && lines[15] == 99);
 
     /* no octets, and no room */
     r = walk(a.octets, 0, 0, 0);
@@ -129,7 +134,7 @@ static void walks_of_other_orders(void)
     struct buttresk_walk_answer r = walk(two.octets, two.size, ROWS, LINES);
     EXPECT(counted(r, 8, 0, 0) && ended(r, BUTTRESK_SECTION_TABLE_FULL, 8, 88, 0));
     uint64_t more[9 * BUTTRESK_ROW];
-    static const uint64_t two_line[BUTTRESK_LINE] = {0, 0, 1, 0, 1, 2, 3, 4, 5, 6, 7, 8};
+    static const uint64_t two_line[15] = {0, 0, 1, 1, 0, 1, 2, 3, 4, 5, 6, 7, 8, 0, 92};
     r = buttresk_walk(two.octets, two.size, more, 9 * BUTTRESK_ROW, lines, LINES);
     EXPECT(counted(r, 9, 1, 1) && ended(r, BUTTRESK_DONE, 0, 0, 0));
     EXPECT(memcmp(lines, two_line, sizeof two_line) == 0);
@@ -139,6 +144,79 @@ static void walks_of_other_orders(void)
     add_section(&four, 4, 4);
     r = walk(four.octets, four.size, ROWS, LINES);
     EXPECT(counted(r, 2, 0, 0) && ended(r, BUTTRESK_NO_GRID, 2, 37, 4));
+}
+
+/* Document 01's sample of 117 octets: A with 4, 5, 6 and 7 again before its end. */
+static void add_117(struct file *f)
+{
+    struct file a = sample_a();
+    add_start(f, 117);
+    add(f, a.octets + 16, 66);
+    add(f, a.octets + 51, 35);
+}
+
+/* The line of a message that goes on, and the line that closes it. */
+static void walks_of_messages_that_go_on(void)
+{
+    static const uint64_t two_lines[30] = {0, 0, 0, 0, 0, 1, 0, 2, 3, 4, 5, 6, 0, 0, 117,
+                                           0, 1, 0, 1, 0, 1, 0, 2, 7, 8, 9, 10, 11, 0, 117};
+    uint64_t more[12 * BUTTRESK_ROW], two[30];
+    struct file f = {.size = 0};
+    add_117(&f);
+    struct buttresk_walk_answer r = buttresk_walk(f.octets, f.size, more, 36, two, 30);
+    EXPECT(f.size == 117 && counted(r, 12, 2, 1) && ended(r, BUTTRESK_DONE, 0, 0, 0));
+    EXPECT(memcmp(two, two_lines, sizeof two_lines) == 0);
+
+    /* one number short of the second line, and of the first */
+    r = buttresk_walk(f.octets, f.size, more, 36, lines, LINES);
+    EXPECT(counted(r, 11, 1, 0) && ended(r, BUTTRESK_SUBMESSAGE_TABLE_FULL, 11, 113, 0));
+    r = walk(f.octets, f.size, ROWS, 14);
+    EXPECT(counted(r, 7, 0, 0) && ended(r, BUTTRESK_SUBMESSAGE_TABLE_FULL, 7, 82, 0));
+    EXPECT(lines[0] == 99);
+}
+
+/* Offsets and places count from the file's start, and a second message has its own. */
+static void walks_of_later_messages(void)
+{
+    static const uint64_t behind_a[45] = {0, 0, 0, 1, 0, 1, 0, 2, 3, 4, 5, 6, 7, 0, 86,
+                                          1, 0, 0, 0, 8, 9, 0, 10, 11, 12, 13, 14, 0, 86, 117,
+                                          1, 1, 0, 1, 8, 9, 0, 10, 15, 16, 17, 18, 19, 86, 117};
+    uint64_t more[20 * BUTTRESK_ROW], three[45];
+    struct file f = sample_a(), g = {.size = 0};
+    add_117(&f);
+    struct buttresk_walk_answer r = buttresk_walk(f.octets, f.size, more, 60, three, 45);
+    EXPECT(f.size == 203 && counted(r, 20, 3, 2) && ended(r, BUTTRESK_DONE, 0, 0, 0));
+    EXPECT(memcmp(three, behind_a, sizeof behind_a) == 0);
+
+    add(&g, "abc", 3);
+    add_117(&g);
+    r = buttresk_walk(g.octets, g.size, more, 60, three, 45);
+    EXPECT(g.size == 120 && counted(r, 12, 2, 1) && ended(r, BUTTRESK_DONE, 0, 0, 0));
+    EXPECT(three[3] == 0 && three[12] == 0 && three[13] == 3 && three[14] == 117);
+    EXPECT(three[18] == 1 && three[27] == 11 && three[28] == 3 && three[29] == 117);
+}
+
+/* The total length is the stated one, whatever the file has of it; the largest is 2^64 - 1. */
+static void walks_of_stated_totals(void)
+{
+    static const uint64_t goes_on[13] = {0, 0, 0, 0, 0, 1, 0, 2, 3, 4, 5, 6, 0};
+    struct file f = {.size = 0}, a = sample_a();
+    add_117(&f);
+    memset(f.octets + 8, 255, 8);
+    struct buttresk_walk_answer r = walk(f.octets, 91, ROWS, LINES);
+    EXPECT(counted(r, 8, 1, 0) && ended(r, BUTTRESK_INPUT_OVER, 7, 82, 0));
+    EXPECT(memcmp(lines, goes_on, sizeof goes_on) == 0);
+    EXPECT(lines[13] == 0 && lines[14] == UINT64_MAX);
+
+    /* a section 0 inside an open message: the line is the old message's */
+    struct file old = {.size = 0};
+    add_start(&old, 82);
+    add(&old, a.octets + 16, 66);
+    add(&old, a.octets, a.size);
+    r = walk(old.octets, old.size, ROWS, LINES);
+    EXPECT(counted(r, 7, 1, 0) && ended(r, BUTTRESK_MISPLACED, 7, 82, 0));
+    EXPECT(memcmp(lines, goes_on, sizeof goes_on) == 0);
+    EXPECT(lines[13] == 0 && lines[14] == 82);
 }
 
 static void copies(void)
@@ -340,6 +418,9 @@ int main(void)
 {
     walks();
     walks_of_other_orders();
+    walks_of_messages_that_go_on();
+    walks_of_later_messages();
+    walks_of_stated_totals();
     copies();
     cuts();
     writes();

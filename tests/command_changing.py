@@ -174,7 +174,8 @@ def one_of_several(at):
     """The other files are read all the same."""
     path, other = at / "file", write(at / "other", A)
     done = changed_while_at_work(path, shortened_to(4096), "index", path, other)
-    expected = f"file {other}\nsections 8 submessages 1 messages 1\n0.0 0 1 - 2 3 4 5 6 7\nend 0 0 0 0\n"
+    expected = (f"file {other}\nsections 8 submessages 1 messages 1\n"
+                "0.0 0 1 - 2 3 4 5 6 7 0 86\nend 0 0 0 0\n")
     check_ended("index of a changed file and another: the other is printed alone", done, 2, SHORTENED, expected.encode())
 
 

@@ -94,10 +94,18 @@ def emulators_memory(at):
     return run_measured("index", file_without_search(at / "without search"))[3] if emulated() else 0
 
 
+def two_messages(first, second):
+    """The index, by hand, of two messages of eight sections, each by its offset and its length."""
+    lines = ["sections 16 submessages 2 messages 2", "0.0 0 1 - 2 3 4 5 6 7 %d %d" % first,
+             "1.0 8 9 - 10 11 12 13 14 15 %d %d" % second, "end 0 0 0 0", ""]
+    return "\n".join(lines).encode()
+
+
 def stepped_over(at):
     path = file_without_search(at / "file")
     status, printed, errors, _, mapped = run_measured("index", path)
-    index = b"sections 16 submessages 2 messages 2\n0.0 0 1 - 2 3 4 5 6 7\n1.0 8 9 - 10 11 12 13 14 15\nend 0 0 0 0\n"
+    first = BEFORE_7 + LONG_7 + len(END)
+    index = two_messages((0, first), (first, SPARSE_SIZE - first))
     check("index of 5 GiB of two messages", (status, printed, errors) == (0, index, b""), (status, printed, errors))
     check("no page of a section 7 is read", mapped < MEBIBYTE, mapped)
 
@@ -105,8 +113,8 @@ def stepped_over(at):
 def sparse(at):
     path, own = sparse_file(at / "sparse"), emulators_memory(at)
     check("the sparse file takes little of the disk", path.stat().st_blocks * 512 < MEBIBYTE, path.stat())
-    index = b"sections 16 submessages 2 messages 2\n0.0 0 1 - 2 3 4 5 6 7\n1.0 8 9 - 10 11 12 13 14 15\nend 0 0 0 0\n"
     total, last = BEFORE_7 + LONG_7 + len(END), SPARSE_SIZE - len(A)
+    index = two_messages((0, total), (last, 86))
     for verb in ("index", "fields"):
         status, printed, errors, touched, mapped = run_measured(verb, path)
         ended = (status, errors) == (0, b"")
@@ -127,7 +135,8 @@ def many_index(count):
     lines = [f"sections {8 * count} submessages {count} messages {count}"]
     for i in range(count):
         first = 8 * i
-        lines.append(f"{i}.0 {first} {first + 1} - " + " ".join(str(place) for place in range(first + 2, first + 8)))
+        places = " ".join(str(place) for place in range(first + 2, first + 8))
+        lines.append(f"{i}.0 {first} {first + 1} - {places} {86 * i} 86")
     return "\n".join(lines + ["end 0 0 0 0", ""]).encode()
 
 

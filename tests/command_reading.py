@@ -34,10 +34,10 @@ HEAD = "\t".join(COLUMNS)
 
 SEA_INDEX = """\
 sections 29 submessages 4 messages 3
-0.0 0 1 - 2 3 4 5 6 0
-0.1 0 1 - 2 7 8 9 10 11
-1.0 12 13 14 15 16 17 18 19 20
-2.0 21 22 - 23 24 25 26 27 28
+0.0 0 1 - 2 3 4 5 6 open 0 269
+0.1 0 1 - 2 7 8 9 10 11 0 269
+1.0 12 13 14 15 16 17 18 19 20 269 204
+2.0 21 22 - 23 24 25 26 27 28 473 191
 end 0 0 0 0
 """
 SEA_FIELDS = [
@@ -46,12 +46,12 @@ SEA_FIELDS = [
     "1.0 269 204 10 65535 0 2026-03-14T06:00:00 0 0 3 2 1 12 1 0 0 255 -127 -2147483647 0 12 0 0",
     "2.0 473 191 0 65535 0 2026-03-15T00:00:00 0 3 1 2 1 0 101 0 0 255 -127 -2147483647 0 12 0 255",
 ]
-LEAST_INDEX = "sections 8 submessages 1 messages 1\n0.0 0 1 - 2 3 4 5 6 7\nend 0 0 0 0\n"
+LEAST_INDEX = "sections 8 submessages 1 messages 1\n0.0 0 1 - 2 3 4 5 6 7 0 86\nend 0 0 0 0\n"
 LEAST_FIELDS = ["0.0 0 86 0 65535 0 2026-03-14T06:00:00 65535" + 11 * " none" + " 65535 0 65535 255"]
 CUT_INDEX = """\
 sections 16 submessages 2 messages 1
-0.0 0 1 - 2 3 4 5 6 0
-0.1 0 1 - 2 7 8 9 10 11
+0.0 0 1 - 2 3 4 5 6 open 0 269
+0.1 0 1 - 2 7 8 9 10 11 0 269
 end 2 16 390 17
 """
 CUT_MEANS = "1 to 4 octets are left for a header, 1 to 3 for a section 8, or the payload of a section 1 to 6 is cut"
@@ -206,6 +206,18 @@ def first_difference(found, expected):
     return "the status alone differs"
 
 
+def lines_say_their_message(at):
+    """The ninth position, offset and total length, by hand; then as the reference has them."""
+    for what, (file, rows, lines, messages, end) in walk_files.CARRIED.items():
+        head = f"sections {rows} submessages {len(lines)} messages {messages}"
+        index = "\n".join([head, *lines, f"end {end}", ""]).encode()
+        done = run("index", write(at / "carried", file))
+        check_equal(f"a slip that index does not make: {what}", (done.returncode, done.stdout),
+                    (0 if end == walk_files.CLEAN else 1, index))
+    files = [file for file, *_ in walk_files.CARRIED.values()]
+    as_the_reference("what a line says of its message", files, at)
+
+
 def refusals_are_told(at):
     """Of each kind of refusal in the answers written by hand, one: standard error has its numbers and its words."""
     words = {2: "cut", 3: "other edition", 4: "total under 16", 5: "no end mark", 6: "length under 5", 7: "unknown number",
@@ -338,6 +350,7 @@ def everything():
         at = Path(name)
         as_the_reference("one file", [walk_files.EVERY_START], at)
         as_the_reference("answers by hand", [file for file, *_ in walk_files.by_hand()], at)
+        lines_say_their_message(at)
         as_the_reference("swept", walk_files.swept()[::2], at)
         as_the_reference("products", list(product_files()), at)
         as_the_reference("extremes", list(extreme_files()), at)

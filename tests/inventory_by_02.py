@@ -24,11 +24,11 @@ LINE = re.compile(rb":".join([rb"(%s)" % NUMBER] * 4 + [rb"(%s)" % MAYBE] * 5))
 
 def entry_of(file, done, line):
     """The nine fields of a submessage, None for none."""
-    start, product = (done.rows[line.places[number]] for number in (0, 4))
+    product = done.rows[line.places[4]]
     payload = file[product.offset + 5:product.offset + product.length]
     fields = fields_by_01(4, payload)
     category, number, _, unit, time, surface = fields[2:8]
-    return (line.message, line.submessage, start.offset, file[start.offset + 6],
+    return (line.message, line.submessage, line.offset, file[line.offset + 6],
             category, number, unit, time, surface)
 
 

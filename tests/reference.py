@@ -3,11 +3,11 @@ the answers that the stored lists expect.
 
 Written from the documents, with the project's reading where they leave two; it shares nothing with
 the library. Headings and words are 01's. 02 says how many octets are missing of a section that is
-cut (its Ticket 2).
+cut (its Ticket 2), and what a line has in place of 01's zero and behind its places (its Ticket 7).
 """
 
 from math import inf
-from typing import NamedTuple
+from typing import NamedTuple, Optional
 
 # --- Framing -------------------------------------------------------------------------------------
 
@@ -38,13 +38,18 @@ def unsigned(octets):
     return int.from_bytes(octets, "big")
 
 
+def stated_total(file, start):
+    """The total length of a message, as its section 0 states it."""
+    return unsigned(file[start + 8:start + 16])
+
+
 def read_section_0(file, at):
     """The next message's section 0, and its total length."""
     start = file.find(b"GRIB", at)
     # The first "GRIB" has the most octets behind it: if it has too few, so have all others.
     if start < 0 or len(file) - start < 16:
         raise InputOver
-    edition, total = file[start + 7], unsigned(file[start + 8:start + 16])
+    edition, total = file[start + 7], stated_total(file, start)
     if edition != 2:
         raise Unread(3, start, edition)
     if total < 16:
@@ -127,14 +132,24 @@ CAN_COME = {MESSAGE_START: {0}, 0: {1}, 1: {2, 3}, 2: {3}, 3: {4}, 4: {5}, 5: {6
 class Line(NamedTuple):
     message: int
     submessage: int
-    places: tuple       # of sections 0 to 8; None for no section 2, the ninth 0 for "goes on"
+    places: tuple       # of sections 0 to 7; None for no section 2
+    end: Optional[int]  # the place of section 8; None for "goes on"
+    offset: int         # of its message
+    total: int          # length of its message
+
+
+def line_words(line):
+    """What `gribwalk` prints of a submessage."""
+    places = " ".join("-" if place is None else str(place) for place in line.places)
+    end = "open" if line.end is None else line.end
+    return f"{line.message}.{line.submessage} {places} {end} {line.offset} {line.total}"
 
 
 class Walk:
     """What is stored after some sections, and where in the order the last of them stands."""
 
-    def __init__(self, row_room, line_room):
-        self.row_room, self.line_room = row_room, line_room
+    def __init__(self, file, row_room, line_room):
+        self.file, self.row_room, self.line_room = file, row_room, line_room
         self.rows, self.lines, self.messages = [], [], 0
         self.outcome, self.place, self.offset, self.detail = 0, 0, 0, 0
         self.start_message()
@@ -150,7 +165,7 @@ class Walk:
         if self.after == 7 and not closing:
             if len(self.lines) == self.line_room:
                 return 14
-            self.complete_submessage(0)
+            self.complete_submessage(None)
             self.after = SUBMESSAGE_START
         if section.number not in CAN_COME[self.after]:
             return 12 if (self.after, section.number) == (1, 4) else 11
@@ -171,9 +186,10 @@ class Walk:
             self.messages += 1
             self.start_message()
 
-    def complete_submessage(self, end_place):
-        places = tuple(self.in_force[:8]) + (end_place,)
-        self.lines.append(Line(self.messages, self.submessage, places))
+    def complete_submessage(self, end):
+        start = self.rows[self.in_force[0]].offset
+        self.lines.append(Line(self.messages, self.submessage, tuple(self.in_force[:8]), end,
+                               start, stated_total(self.file, start)))
         self.submessage += 1
 
     def refuse(self, outcome, place, offset, detail=0):
@@ -182,7 +198,7 @@ class Walk:
 
 def walk(file, row_room=inf, line_room=inf):
     """The answer to a file, with tables that have room for so many rows and lines."""
-    done = Walk(row_room, line_room)
+    done = Walk(file, row_room, line_room)
     if len(file) > LARGEST_FILE:
         done.refuse(1, 0, 0)
         return done
@@ -244,8 +260,8 @@ def values_octets(file, section):
 
 def message_octets(file, section_0):
     """Where a closed message's octets stand: as many from its G on as its total length says."""
-    total = unsigned(file[section_0.offset + 8:section_0.offset + 16])
-    return range(section_0.offset, section_0.offset + total)
+    start = section_0.offset
+    return range(start, start + stated_total(file, start))
 
 
 def blanked(file, sections):

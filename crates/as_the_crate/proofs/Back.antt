@@ -1,12 +1,12 @@
 -- The crate's words back: what a walk tells, in the crate's words, is that again.
-use Prim.Native.Nat.{ℕ, zero, suc, _≤_}
+use Prim.Native.Nat.{ℕ, zero, suc, _+_, _≤_}
 use native.Mathlib.Omega.{arith}
 use mathlib.Core.Path.{_≡_, refl, sym, ap, _∙_}
 use mathlib.Core.List.{List, [], _∷_, map}
-use lib.Dec.{eqb}
 use lib.ListN.{length, getD}
-use borrow.Author.Tests.{eqb-true}
-use Rattle.octets.specs.Words.{pick, Not}
+use borrow.Author.Tests.{ne-eqb}
+use Rattle.octets.specs.Words.{Not}
+use Rattle.octets.specs.BigEndian.{beAt}
 use Rattle.framing.specs.Listing.{Ending, over, unreadable}
 use Rattle.framing.specs.declared.read.Offset.{Offset}
 use Rattle.framing.specs.declared.read.Section.{Section}
@@ -17,25 +17,30 @@ use Rattle.order.specs.Order.{judged, completes, isBetween}
 use Rattle.order.specs.declared.Judged.{Judged}
 use Rattle.order.specs.declared.Judged.the-variants as judged
 use Rattle.order.specs.declared.Place.{Place}
+use Rattle.index.specs.Lines.{span}
 use Rattle.index.specs.Bounds.{unlimited}
 use Rattle.index.specs.declared.line.Line.{Line}
 use Rattle.index.specs.declared.line.LocalUsePlace.{LocalUsePlace}
 use Rattle.index.specs.declared.line.LocalUsePlace.the-variants.{At, Absent}
+use Rattle.index.specs.declared.line.MessageEnd.{MessageEnd}
+use Rattle.index.specs.declared.line.MessageEnd.the-variants.{GoesOn, ClosedAt}
 use Rattle.index.specs.declared.refusal.Refusal.{Refusal}
 use Rattle.index.specs.declared.refusal.Refusal.the-variants as refusal
 use Rattle.index.specs.declared.refusal.Outcome.{Outcome}
 use Rattle.index.specs.declared.refusal.Outcome.the-variants as outcome
 use Rattle.index.specs.Numbers.{endOf, refusalNumber, refusalDetail, faultNumber, faultDetail}
 use Rattle.index.specs.Walk.{Reached, Judgement, stops, passes, goneOn, concluded, followed, walked}
-use Rattle.index.specs.Pins.{countOf}
-use Rattle.walk_laws.specs.Laws.{offsetAt}
+use Rattle.index.specs.Pins.{Every, PinnedLine, countOf}
+use Rattle.index.proofs.Pins.{lines-are-pinned}
+use Rattle.walk_laws.specs.Laws.{closings, offsetAt}
 use Rattle.walk_laws.proofs.Messages.{messages-are-ends}
 use Rattle.walk_laws.proofs.Places.{place-is-count, input-over-at-last}
 use Rattle.as_the_crate.specs.Std.{SectionInfo, info}
 use Rattle.as_the_crate.specs.Parser.{positions, Submessage, overflow}
 use Rattle.as_the_crate.specs.Equal.{countTold}
-use Rattle.as_the_crate.specs.Told.{sectionIn, localIn, lineIn, closedIn, outcomeIn, toldIn}
-use Rattle.as_the_crate.proofs.Words.{infosOf, keptLocal, submessageOf, submessagesOf, wordOf, inWords}
+use Rattle.as_the_crate.specs.Open.{ninthOf}
+use Rattle.as_the_crate.specs.Told.{sectionIn, localIn, endIn, lineIn, closedIn, outcomeIn, toldIn}
+use Rattle.as_the_crate.proofs.Words.{infosOf, keptLocal, keptEnd, submessageOf, submessagesOf, wordOf, inWords}
 use Rattle.as_the_crate.proofs.Tables.{freelyBy, freely, freelyFrom}
 use Rattle.as_the_crate.proofs.Whole.{unlimited-held}
 
@@ -47,17 +52,6 @@ local-back : (l : LocalUsePlace) → localIn (keptLocal (λ k. k) l) ≡ l
 local-back (At p) = refl
 local-back Absent = refl
 
--- place 0 is the place of the section 8 that the crate makes up
-pub end-place : (n : ℕ) → pick (eqb n 0) 0 n ≡ n
-end-place n = by-test (λ (k : ℕ). k ≡ n) (eqb n 0) (λ e. sym (eqb-true n 0 e)) (λ e. refl)
-
-line-back : (l : Line) → lineIn (submessageOf positions (λ k. k) l) ≡ l
-line-back l = rw (end-place (l .end .0), local-back (l .local))
-
-pub lines-back : (ls : List Line) → map (λ (s : Submessage ℕ). lineIn s) (submessagesOf positions (λ k. k) ls) ≡ ls
-lines-back [] = refl
-lines-back (l ∷ ls) = rw (line-back l, lines-back ls)
-
 closed-back : (ss : List Section) → closedIn (infosOf ss) ≡ countOf 8 ss
 closed-back [] = refl
 closed-back (s ∷ ss) = rw (closed-back ss)
@@ -66,6 +60,40 @@ offset-back : (ss : List Section) (k : ℕ) → getD (infosOf ss) k (info 0 0 0)
 offset-back [] k = refl
 offset-back (s ∷ ss) zero = refl
 offset-back (s ∷ ss) (suc k) = offset-back ss k
+
+module _ {file : List ℕ} {ss : List Section} where
+  -- a pinned line's message goes on, or is closed at a place that is not 0
+  pub by-end : {l : Line} → PinnedLine file ss l → (So : MessageEnd → Type 0) → So GoesOn → ((p : Place) → Not (p .0 ≡ 0) → So (ClosedAt p))
+      → So (l .end)
+  by-end {l} pins So ajar closed = go (l .end) refl
+    where
+      not-0 : (p : Place) → l .end ≡ ClosedAt p → Not (p .0 ≡ 0)
+      not-0 p e zeroth =
+          let goes-on : l .end ≡ GoesOn = pins .goes-on λ there. (let same = ap ninthOf (sym e ∙ pins .closed there) in omega arith) in
+          let never : _≡_ {A = ℕ} 1 0 = ap closings (sym e ∙ goes-on) in
+          omega arith
+
+      go : (e : MessageEnd) → l .end ≡ e → So e
+      go GoesOn e = ajar
+      go (ClosedAt p) e = closed p (not-0 p e)
+
+  -- so its end comes back
+  end-back : {l : Line} → PinnedLine file ss l → lineIn file (infosOf ss) (submessageOf positions (λ k. k) l) .end ≡ l .end
+  end-back pins =
+      by-end pins (λ (e : MessageEnd). endIn (keptEnd positions (λ k. k) e) ≡ e) refl (λ p other. rw (ne-eqb (p .0) 0 other))
+
+  -- and so does where its message stands
+  span-back : {l : Line} → PinnedLine file ss l → lineIn file (infosOf ss) (submessageOf positions (λ k. k) l) .span ≡ l .span
+  span-back {l} pins =
+      ap (λ (at : ℕ). span (record { 0 = at }) (beAt file (at + 8) 8)) (offset-back ss _ ∙ sym (ap (λ (o : Offset). o .0) (pins .offset)))
+      ∙ ap (λ (total : ℕ). span (l .span .offset) total) (sym (pins .total))
+
+-- pinned lines come back
+pub lines-back : (file : List ℕ) (ss : List Section) (ls : List Line) → Every (PinnedLine file ss) ls
+    → map (λ (s : Submessage ℕ). lineIn file (infosOf ss) s) (submessagesOf positions (λ k. k) ls) ≡ ls
+lines-back file ss [] pins = refl
+lines-back file ss (l ∷ ls) pins =
+    rw (local-back (l .local), end-back (pins .0), span-back (pins .0), lines-back file ss ls (pins .1))
 
 pub as-many : (ss : List Section) → length (infosOf ss) ≡ length ss
 as-many [] = refl
@@ -149,11 +177,11 @@ module _ (file : List ℕ) where
 
   -- all that the walk tells
   pub told-back : length file ≤ 1099511627776 → Not (wordOf (walked unlimited file .outcome) ≡ overflow)
-      → toldIn (countTold file) (inWords positions (λ k. k) (walked unlimited file)) ≡ walked unlimited file
+      → toldIn (countTold file) file (inWords positions (λ k. k) (walked unlimited file)) ≡ walked unlimited file
   told-back most no-overflow =
       rw (
         sections-back ss,
-        lines-back (walked unlimited file .lines),
+        lines-back file ss (walked unlimited file .lines) (lines-are-pinned unlimited file),
         closed-back ss,
         ← (messages-are-ends unlimited file),
         outcome-back (walked unlimited file .outcome) refl (rw (unlimited-held file most) (ordinary _ _ _)) no-overflow,

@@ -14,13 +14,14 @@ use Rattle.framing.specs.Listing.{Ending, over, unreadable}
 use Rattle.framing.specs.declared.read.Offset.{Offset}
 use Rattle.framing.specs.declared.read.Section.{Section}
 use Rattle.framing.specs.declared.read.Fault.{Fault}
-use Rattle.index.specs.Lines.{place, inForce, lineOf}
+use Rattle.index.specs.Lines.{place, span, inForce, lineOf}
+use Rattle.index.specs.declared.line.Span.{Span}
 use Rattle.index.specs.declared.line.Force.{Force}
 use Rattle.index.specs.declared.line.LocalUsePlace.{LocalUsePlace}
 use Rattle.index.specs.declared.line.LocalUsePlace.the-variants.{At, Absent}
 use Rattle.index.specs.declared.listed.Listed.{Listed}
 use Rattle.index.specs.declared.bounds.Room.{Room}
-use Rattle.index.specs.Walk.{Reached, fitted, closing, byOrder, judgement, concluded, walkedFrom}
+use Rattle.index.specs.Walk.{Reached, spanBehind, fitted, closing, byOrder, judgement, concluded, walkedFrom}
 use Rattle.as_the_crate.specs.Std.{ParseError, Dropped, nothing, gives, none, errs, overflows, info}
 use Rattle.as_the_crate.specs.Parser.{Advance, Keeping, Submessage, SubmessageStream, Locals, locals, fresh-locals, caching, ValidatorState}
 use Rattle.as_the_crate.specs.Parser.{StartOfMessage, EndOfSect}
@@ -89,13 +90,15 @@ pub data Stand : Type 0 where
   after6 : Stand
   after7 : Stand
 
--- how many sections and lines are told, the last section, the message and the submessage in hand
+-- of which file how many sections and lines are told, the last section, the message and the submessage in hand, where the message stands
 pub record Count : Type 0 where
+  pub file : List ℕ
   pub sections : ℕ
   pub lines : ℕ
   pub last : Listed
   pub message : ℕ
   pub submessage : ℕ
+  pub span : Span
 
 abbrev orderOf : Stand → Order
 orderOf between = order.BetweenMessages
@@ -142,11 +145,12 @@ Begun after5 sections = 0 < sections
 Begun after6 sections = 0 < sections
 Begun after7 sections = 0 < sections
 
-abbrev forceOf : Places → ℕ → ℕ → Force
-forceOf k message submessage =
+abbrev forceOf : Places → Count → Force
+forceOf k c =
     record {
-      message = message;
-      submessage = submessage;
+      message = c .message;
+      submessage = c .submessage;
+      span = c .span;
       local = k .local;
       places =
           place (k .p0) ∷ place (k .p1) ∷ place 0 ∷ place (k .p3) ∷ place (k .p4) ∷ place (k .p5) ∷ place (k .p6) ∷ place (k .p7) ∷ [];
@@ -155,11 +159,12 @@ forceOf k message submessage =
 abbrev reachedOf : Stand → Places → Count → Reached
 reachedOf x k c =
     record {
+      file = c .file;
       sections = c .sections;
       lines = c .lines;
       last = c .last;
       order = orderOf x;
-      force = forceOf k (c .message) (c .submessage);
+      force = forceOf k c;
     }
 
 -- a section, with its number written
@@ -170,31 +175,37 @@ numbered n s = record { number = n; offset = s .offset; length = s .length }
 abbrev told : Count → Section → Count
 told c s =
     record {
+      file = c .file;
       sections = c .sections + 1;
       lines = c .lines;
       last = record { place = place (c .sections); section = s };
       message = c .message;
       submessage = c .submessage;
+      span = spanBehind (c .file) (c .span) s;
     }
 
 abbrev toldOn : Count → Section → Count
 toldOn c s =
     record {
+      file = c .file;
       sections = c .sections + 1;
       lines = c .lines + 1;
       last = record { place = place (c .sections); section = s };
       message = c .message;
       submessage = c .submessage + 1;
+      span = c .span;
     }
 
 abbrev toldEnd : Count → Section → Count
 toldEnd c s =
     record {
+      file = c .file;
       sections = c .sections + 1;
       lines = c .lines + 1;
       last = record { place = place (c .sections); section = s };
       message = c .message + 1;
       submessage = 0;
+      span = span (record { 0 = 0 }) 0;
     }
 
 -- by what is kept, and what a look at a place gives
@@ -348,7 +359,7 @@ module _ {K : Type 0} (κ : Keeping K) (look : ℕ → K) where
     -- a section is passed, or refused by the order
     passed : (s : Section) (ss : List Section) (e : Ending) (i j : I) → advance i ≡ gives (infoOf s, j) → Claim ss e j → Claim (s ∷ ss) e i
     unfolding collected next-in match-num ensure-next-is-sect0 ensure-next-is-sect-2-or-3-or-4 ensure-next-is-sect8 ensure-next-is-sect-num
-        walkedFrom judgement byOrder fitted closing judged completes inForce lineOf
+        walkedFrom judgement byOrder fitted closing judged completes spanBehind inForce lineOf
     passed s ss e i j h later x k u zero c begun seen turns rows lines = absurd (omega arith)
     passed s ss e i j h later x k u (suc zero) c begun seen turns rows lines = absurd (omega arith)
     passed s ss e i j h later between k u (suc (suc n)) c begun seen turns rows lines =

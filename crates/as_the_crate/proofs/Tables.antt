@@ -16,26 +16,29 @@ use Rattle.order.specs.declared.Judged.the-variants as judged
 use Rattle.framing.specs.Listing.{Ending}
 use Rattle.framing.specs.declared.read.Section.{Section}
 use Rattle.framing.proofs.Tests.{by-test}
-use Rattle.index.specs.Lines.{place, opened, inForce, lineOf}
+use Rattle.index.specs.Lines.{place, opened, lineOf}
+use Rattle.index.specs.declared.line.MessageEnd.the-variants.{GoesOn, ClosedAt}
 use Rattle.index.specs.declared.line.Line.{Line}
 use Rattle.index.specs.declared.refusal.Refusal.the-variants as refusal
 use Rattle.index.specs.declared.bounds.Room.{Room}
-use Rattle.index.specs.Walk.{Reached, here, Judgement, stops, passes, fitted, closing, byOrder, goneOn, judgement, Told, ends, concluded, followed, walkedFrom}
+use Rattle.index.specs.Walk.{Reached, here, comesInForce, Judgement, stops, passes, fitted, closing, byOrder, goneOn, judgement, Told, ends, concluded, followed, walkedFrom}
 
 -- the judgement where no table can be full
 abbrev pub freelyBy : Judged → Reached → Section → List Line → Judgement
 freelyBy (judged.Fits order) r s lines =
     passes lines 0
     (record {
+      file = r .file;
       sections = r .sections + 1;
       lines = r .lines;
       last = here r s;
       order = order;
-      force = inForce (r .force) (s .number) (place (r .sections));
+      force = comesInForce (r .file) (r .force) s (place (r .sections));
     })
 freelyBy judged.Closes r s lines =
-    passes (lineOf (r .force) (place (r .sections)) ∷ []) 1
+    passes (lineOf (r .force) (ClosedAt (place (r .sections))) ∷ []) 1
     (record {
+      file = r .file;
       sections = r .sections + 1;
       lines = r .lines + 1;
       last = here r s;
@@ -48,7 +51,7 @@ freelyBy judged.NoGrid r s lines = stops lines (refusal.NoGrid (s .number))
 unfoldable pub freely : Reached → Section → Judgement
 freely r s =
     pick (completes (r .order) (s .number))
-    (freelyBy (judged SubmessageStart (s .number)) (goneOn r) s (lineOf (r .force) (place 0) ∷ []))
+    (freelyBy (judged SubmessageStart (s .number)) (goneOn r) s (lineOf (r .force) GoesOn ∷ []))
     (freelyBy (judged (r .order) (s .number)) r s [])
 
 unfoldable pub freelyFrom : Reached → List Section → Ending → Told
@@ -77,7 +80,7 @@ counted r s =
     (λ e. at-once (judged (r .order) (s .number)))
   where
     J : Judged → Type 0
-    J j = Counted r (freelyBy j (goneOn r) s (lineOf (r .force) (place 0) ∷ []))
+    J j = Counted r (freelyBy j (goneOn r) s (lineOf (r .force) GoesOn ∷ []))
 
     at-once : (j : Judged) → Counted r (freelyBy j r s [])
     at-once (judged.Fits order) = (refl, omega arith, omega arith)
@@ -90,7 +93,7 @@ unfolding judgement freely judged byOrder fitted closing
 same room r s = go (completes (r .order) (s .number))
   where
     line : List Line
-    line = lineOf (r .force) (place 0) ∷ []
+    line = lineOf (r .force) GoesOn ∷ []
 
     fits : (q : Reached) (lines : List Line) (order : Order) → q .sections + 1 ≤ room .rows
         → byOrder (judged.Fits order) room q s lines ≡ freelyBy (judged.Fits order) q s lines

@@ -9,7 +9,7 @@ use borrow.Author.Tests.{le-ltb}
 use Rattle.octets.specs.Words.{Not}
 use Rattle.framing.specs.Listing.{listing}
 use Rattle.framing.specs.declared.read.Section.{Section}
-use Rattle.index.specs.Lines.{place}
+use Rattle.index.specs.Lines.{place, span}
 use Rattle.index.specs.declared.line.LocalUsePlace.the-variants.{Absent}
 use Rattle.index.specs.Bounds.{unlimited}
 use Rattle.index.specs.declared.bounds.Room.{Room}
@@ -29,10 +29,10 @@ use Rattle.as_the_crate.proofs.Tables.{freelyFrom, in-tables, few-told}
 
 -- the walk with no table in mind, and the walk down the crate's listing
 abbrev pub free : List ℕ → Told
-free file = freelyFrom atStart (listing file .sections) (listing file .ending)
+free file = freelyFrom (atStart file) (listing file .sections) (listing file .ending)
 
 abbrev pub crateFree : List ℕ → Told
-crateFree file = freelyFrom atStart (crateListing (length file + 1) file 0 0 .sections) (crateListing (length file + 1) file 0 0 .ending)
+crateFree file = freelyFrom (atStart file) (crateListing (length file + 1) file 0 0 .sections) (crateListing (length file + 1) file 0 0 .ending)
 
 -- any tables that hold what is told
 pub held : (file : List ℕ) (room : Room) → length file ≤ 1099511627776 → length (free file .sections) ≤ room .rows
@@ -40,13 +40,13 @@ pub held : (file : List ℕ) (room : Room) → length file ≤ 1099511627776 →
 unfolding walked
 held file room most rows lines =
     rw (le-ltb 1099511627776 (length file) most)
-    (in-tables (listing file .sections) (listing file .ending) atStart room (omega arith) (omega arith))
+    (in-tables (listing file .sections) (listing file .ending) (atStart file) room (omega arith) (omega arith))
 
 pub unlimited-held : (file : List ℕ) → length file ≤ 1099511627776 → walked unlimited file ≡ free file
 unfolding listing
 unlimited-held file most =
     let short = few (length file + 1) file 0 0 in
-    let told = few-told (listing file .sections) (listing file .ending) atStart in
+    let told = few-told (listing file .sections) (listing file .ending) (atStart file) in
     let a = told .0 in
     let b = told .1 in
     held file unlimited most (omega arith) (omega arith)
@@ -60,18 +60,20 @@ down-its-listing κ look file is seen =
     let turns = length file + 1 in
     let L = crateListing turns file 0 0 in
     let short = fewer turns file 0 0 in
-    let told = few-told (L .sections) (L .ending) atStart in
+    let told = few-told (L .sections) (L .ending) (atStart file) in
     let a = told .0 in
     let b = told .1 in
-    let one = in-tables (L .sections) (L .ending) atStart unlimited (omega arith) (omega arith) in
+    let one = in-tables (L .sections) (L .ending) (atStart file) unlimited (omega arith) (omega arith) in
     submessages κ look (Grib2SectionStream·next file) unlimited (L .sections) (L .ending) (stream 0 0)
     (stream-yields turns file 0 0 most (is .octets) (omega arith)) between (places 0 0 Absent 0 0 0 0 0) (nothingKept κ look) (2 * turns + 2)
     (record {
+      file = file;
       sections = 0;
       lines = 0;
       last = record { place = place 0; section = record { number = 0; offset = record { 0 = 0 }; length = 0 } };
       message = 0;
       submessage = 0;
+      span = span (record { 0 = 0 }) 0;
     })
     (omega arith) (subst (λ (t : Told). Seen κ look 0 (t .sections)) (sym one) seen) (omega arith) (omega arith) (omega arith)
     ∙ ap (inWords κ look) one
@@ -103,12 +105,12 @@ with-sections file is =
 -- which ends in an overflow, and the walk leads there, or is the walk
 abbrev pub Which : List ℕ → Type 0
 Which file =
-    ((wordOf (crateFree file .outcome) ≡ overflow) × LeavesUsize file 0 0 atStart)
-    ⊎ (Not (wordOf (crateFree file .outcome) ≡ overflow) × Not (LeavesUsize file 0 0 atStart) × (crateFree file ≡ free file))
+    ((wordOf (crateFree file .outcome) ≡ overflow) × LeavesUsize file 0 0 (atStart file))
+    ⊎ (Not (wordOf (crateFree file .outcome) ≡ overflow) × Not (LeavesUsize file 0 0 (atStart file)) × (crateFree file ≡ free file))
 
 pub which : (file : List ℕ) → length file ≤ 1099511627776 → Which file
 unfolding listing
-which file most = overflow-or-same file (length file + 1) 0 0 atStart (omega arith) (omega arith) (omega arith)
+which file most = overflow-or-same file (length file + 1) 0 0 (atStart file) (omega arith) (omega arith) (omega arith)
 
 pub its-end : (file : List ℕ) → IsFile file → theRust file .end ≡ wordOf (crateFree file .outcome)
 its-end file is = ap (λ (c : Collected ℕ). c .end) (with-places file is)

@@ -2,12 +2,12 @@
 -- 1, 13 and 14 are not the crate's.
 use Prim.Native.Nat.{ℕ, _<_}
 use mathlib.Core.List.{List, [], _∷_}
-use lib.Dec.{eqb}
 use lib.ListN.{getD}
-use Rattle.octets.specs.Words.{pick}
 use Rattle.order.specs.declared.Place.{Place}
 use Rattle.index.specs.declared.line.LocalUsePlace.{LocalUsePlace}
 use Rattle.index.specs.declared.line.LocalUsePlace.the-variants.{At, Absent}
+use Rattle.index.specs.declared.line.MessageEnd.{MessageEnd}
+use Rattle.index.specs.declared.line.MessageEnd.the-variants.{GoesOn, ClosedAt}
 use Rattle.index.specs.declared.line.Line.{Line}
 use Rattle.framing.specs.declared.read.Offset.{Offset}
 use Rattle.framing.specs.declared.read.Section.{Section}
@@ -35,11 +35,15 @@ abbrev pub infosOf : List Section → List SectionInfo
 infosOf [] = []
 infosOf (s ∷ more) = infoOf s ∷ infosOf more
 
--- a line, by what a stream keeps of the section at a place; place 0 in the ninth position means "goes on", where the crate has a
--- section 8 of its own making
+-- a line, by what a stream keeps of the section at a place
 abbrev pub keptLocal : {K : Type 0} → (ℕ → K) → LocalUsePlace → Option K
 keptLocal look (At place) = some (look (place .0))
 keptLocal look Absent = nothing
+
+-- behind a line whose message goes on the crate has a section 8 of its own making
+abbrev pub keptEnd : {K : Type 0} → Keeping K → (ℕ → K) → MessageEnd → K
+keptEnd κ look GoesOn = κ .keep 0 (info 8 0 4)
+keptEnd κ look (ClosedAt place) = look (place .0)
 
 abbrev pub submessageOf : {K : Type 0} → Keeping K → (ℕ → K) → Line → Submessage K
 submessageOf κ look l =
@@ -54,7 +58,7 @@ submessageOf κ look l =
       sect5 = look (l .representation .0);
       sect6 = look (l .bitmap .0);
       sect7 = look (l .values .0);
-      sect8 = pick (eqb (l .end .0) 0) (κ .keep 0 (info 8 0 4)) (look (l .end .0));
+      sect8 = keptEnd κ look (l .end);
     }
 
 abbrev pub submessagesOf : {K : Type 0} → Keeping K → (ℕ → K) → List Line → List (Submessage K)

@@ -42,7 +42,8 @@ abbrev pub countTold : List ℕ → ℕ
 countTold file = endOf (walked unlimited file .outcome) .detail
 
 -- sections, lines, messages closed and outcome with place, offset and detail: but for that count the
--- definition of a walk is what the crate tells
+-- definition of a walk is what the crate tells, with its 0 in the ninth position turned into "goes
+-- on"
 abbrev pub EqualsTheRust : Type 0
 EqualsTheRust =
     (file : List ℕ) → IsFile file → Not (RustOverflows file)
@@ -70,7 +71,7 @@ WalkNumbersEqualsTheRust =
     (file : List ℕ) → IsFile file → Not (RustOverflows file)
     → (rows lines : List ℕ)
     → 3 * length (theRust file .sections) ≤ length rows
-    → 12 * length (theRust file .submessages) ≤ length lines
+    → 15 * length (theRust file .submessages) ≤ length lines
     → let rust = toldByTheRust (countTold file) file in
     walkNumbers file rows lines
     ≡ record {

@@ -5,12 +5,16 @@ use mathlib.Core.List.{List, [], _∷_, map}
 use lib.Dec.{eqb}
 use lib.ListN.{length, getD}
 use Rattle.octets.specs.Words.{pick}
+use Rattle.octets.specs.BigEndian.{beAt}
 use Rattle.framing.specs.declared.read.Section.{Section}
 use Rattle.framing.specs.declared.read.Fault.{Fault}
 use Rattle.framing.specs.declared.read.Fault.the-variants as fault
-use Rattle.index.specs.Lines.{place}
+use Rattle.index.specs.Lines.{place, span}
 use Rattle.index.specs.declared.line.LocalUsePlace.{LocalUsePlace}
 use Rattle.index.specs.declared.line.LocalUsePlace.the-variants.{At, Absent}
+use Rattle.index.specs.declared.line.MessageEnd.{MessageEnd}
+use Rattle.index.specs.declared.line.MessageEnd.the-variants.{GoesOn, ClosedAt}
+use Rattle.index.specs.declared.line.Span.{Span}
 use Rattle.index.specs.declared.line.Line.{Line}
 use Rattle.index.specs.declared.refusal.Refusal.{Refusal}
 use Rattle.index.specs.declared.refusal.Refusal.the-variants as refusal
@@ -75,9 +79,18 @@ abbrev pub localIn : Option ℕ → LocalUsePlace
 localIn (some pos) = At (place pos)
 localIn nothing = Absent
 
--- a submessage's line
-abbrev pub lineIn : Submessage ℕ → Line
-lineIn s =
+-- what stands behind it: place 0 in the ninth position is the crate's word for a message that goes on
+abbrev pub endIn : ℕ → MessageEnd
+endIn pos = pick (eqb pos 0) GoesOn (ClosedAt (place pos))
+
+-- where its message stands: the offset of this section 0, and the total_length that the crate's
+-- Indicator::from_slice reads there
+abbrev pub spanIn : List ℕ → SectionInfo → Span
+spanIn file sect0 = span (record { 0 = sect0 .offset }) (beAt file (sect0 .offset + 8) 8)
+
+-- a submessage's line, where these sections passed
+abbrev pub lineIn : List ℕ → List SectionInfo → Submessage ℕ → Line
+lineIn file passed s =
     record {
       message = s .message;
       submessage = s .submessage;
@@ -89,7 +102,8 @@ lineIn s =
       representation = place (s .sect5);
       bitmap = place (s .sect6);
       values = place (s .sect7);
-      end = place (s .sect8);
+      end = endIn (s .sect8);
+      span = spanIn file (getD passed (s .sect0) (info 0 0 0));
     }
 
 -- a message is closed at each section 8
@@ -135,15 +149,15 @@ outcomeIn missing passed overflow = refusedIn refusal.FileTooLong 0 0
 outcomeIn missing passed unended = refusedIn refusal.FileTooLong 0 0
 
 -- all that is collected
-abbrev pub toldIn : ℕ → Collected ℕ → Told
-toldIn missing rust =
+abbrev pub toldIn : ℕ → List ℕ → Collected ℕ → Told
+toldIn missing file rust =
     record {
       sections = map (λ (s : SectionInfo). sectionIn s) (rust .sections);
-      lines = map (λ (s : Submessage ℕ). lineIn s) (rust .submessages);
+      lines = map (λ (s : Submessage ℕ). lineIn file (rust .sections) s) (rust .submessages);
       messages = closedIn (rust .sections);
       outcome = outcomeIn missing (rust .sections) (rust .end);
     }
 
 -- what the crate tells of a file, with this count where a read was short
 abbrev pub toldByTheRust : ℕ → List ℕ → Told
-toldByTheRust missing file = toldIn missing (theRust file)
+toldByTheRust missing file = toldIn missing file (theRust file)

@@ -15,11 +15,14 @@ use Rattle.sections.specs.GridDefinition.{gridDefinitionOf}
 use Rattle.sections.specs.ReprDefinition.{reprDefinitionOf}
 use Rattle.sections.specs.BitMap.{bitMapOf}
 use Rattle.framing.specs.declared.read.Section.{Section}
+use Rattle.index.specs.Lines.{span}
+use Rattle.index.specs.Walk.{spanAt, spanBehind}
 use Rattle.publish.specs.Values.{Terms, inStretch, inSpan, inMessage}
 use Rattle.index.specs.Decoded.{ownOctets, payloadOf, productSectionOf, fieldsOf, decoded, ofIndicator, ofIdentification, ofGrid, ofProduct, ofRepresentation, ofBitMap}
 use Rattle.blindness.proofs.Spared.{Each, Still, Spared}
 use Rattle.blindness.proofs.Reading.{same-pick, every-octet, be-agree}
 use Rattle.blindness.proofs.Alike.{Seen}
+use Rattle.blindness.proofs.Walks.{SameSpan}
 
 -- octets of two lists that are equal, from one index up to another
 abbrev Same : List ℕ → List ℕ → ℕ → ℕ → Type 0
@@ -128,7 +131,21 @@ module _ (terms : Terms) (spared : Spared terms) (f g : List ℕ) (same : length
         q : List ℕ
         q = payloadOf g s
 
-    -- its message, if it is a section 0, is as long in both
+    -- a section 0 says how long its message is, and the same in both
+    total-same : s .number ≡ 0 → beAt f (s .offset .0 + 8) 8 ≡ beAt g (s .offset .0 + 8) 8
+    total-same e =
+        be-agree f g 8 (s .offset .0 + 8) λ k a b.
+        let size = seen .sixteen e in
+        let i : s .offset .0 + (k - s .offset .0) ≡ k = omega arith in
+        let h = seen .same-octet (k - s .offset .0) (omega arith) (rw e (spared .total (k - s .offset .0) (omega arith) (omega arith))) in
+        rw i at h
+
+    pub span-same : SameSpan f g s
+    unfolding spanBehind spanAt
+    span-same before =
+        same-pick (eqb (s .number) 0) (λ e. ap (span (s .offset)) (total-same (eqb-true (s .number) 0 e))) (λ other. refl)
+
+    -- so its message lies in the same octets
     message-same : (k : ℕ)
         → (eqb (s .number) 0 && inSpan (s .offset .0) (beAt f (s .offset .0 + 8) 8) k)
         ≡ (eqb (s .number) 0 && inSpan (s .offset .0) (beAt g (s .offset .0 + 8) 8) k)
@@ -137,17 +154,13 @@ module _ (terms : Terms) (spared : Spared terms) (f g : List ℕ) (same : length
         o : ℕ
         o = s .offset .0
 
-        total : s .number ≡ 0 → beAt f (o + 8) 8 ≡ beAt g (o + 8) 8
-        total e =
-            be-agree f g 8 (o + 8) λ k a b.
-            let size = seen .sixteen e in
-            let i : o + (k - o) ≡ k = omega arith in
-            let h = seen .same-octet (k - o) (omega arith) (rw e (spared .total (k - o) (omega arith) (omega arith))) in
-            rw i at h
-
         go : (t : Bool) → eqb (s .number) 0 ≡ t → (t && inSpan o (beAt f (o + 8) 8) k) ≡ (t && inSpan o (beAt g (o + 8) 8) k)
-        go true e = rw (total (eqb-true (s .number) 0 e))
+        go true e = rw (total-same (eqb-true (s .number) 0 e))
         go false e = refl
+
+  pub spans-same : (sections : List Section) → Each (Seen terms f g) sections → Each (SameSpan f g) sections
+  spans-same [] seen = tt
+  spans-same (s ∷ more) seen = (span-same s (seen .0), spans-same more (seen .1))
 
   pub decoded-same : (sections : List Section) → Each (Seen terms f g) sections → decoded f sections ≡ decoded g sections
   unfolding decoded

@@ -18,7 +18,8 @@ use Rattle.framing.specs.declared.read.Section.{Section as Row}
 use Rattle.framing.specs.Read.{Read}
 use Rattle.framing.specs.Read.{Section, Over, Refused}
 use Rattle.framing.proofs.Tests.{by-test}
-use Rattle.index.specs.Lines.{place, lineOf}
+use Rattle.index.specs.Lines.{lineOf}
+use Rattle.index.specs.declared.line.MessageEnd.the-variants.{GoesOn}
 use Rattle.index.specs.declared.line.Line.{Line}
 use Rattle.index.specs.declared.refusal.Refusal.the-variants as refusal
 use Rattle.index.specs.declared.refusal.Outcome.the-variants.{Clean}
@@ -89,7 +90,7 @@ module _ (room : Room) (s : Row) where
       (free-order r [] (judged (r .order) (s .number)) a (omega arith)))
     where
       line : List Line
-      line = lineOf (r .force) (place 0) ∷ []
+      line = lineOf (r .force) GoesOn ∷ []
 
       here : Judgement
       here = byOrder (judged SubmessageStart (s .number)) room (goneOn r) s line
@@ -143,4 +144,4 @@ clean-needs-no-more room f =
     by-both (λ (a b : Told). a .outcome ≡ Clean → a ≡ b) (ltb 1099511627776 (length f)) (λ _ h. refl) λ e.
     let small = ltb-false 1099511627776 (length f) e in
     let count = few f in
-    free-from room atStart (listing f .sections) (listing f .ending) (omega arith) (omega arith)
+    free-from room (atStart f) (listing f .sections) (listing f .ending) (omega arith) (omega arith)

@@ -32,7 +32,7 @@ use Rattle.blindness.proofs.Spared.{Each, Spared, spared, and-left, and
 use Rattle.blindness.proofs.Reading.{same-pick, every-octet, Eq}
 use Rattle.blindness.proofs.Listed.{span-past, ofMessages}
 use Rattle.blindness.proofs.Alike.{blind-from, copy-from, Seen, seen-from}
-use Rattle.blindness.proofs.Fields.{decoded-same, messages-same}
+use Rattle.blindness.proofs.Fields.{spans-same, decoded-same, messages-same}
 use Rattle.blindness.proofs.Walks.{fewer, fewer-values, clean-walk, walked-same}
 use Rattle.blindness.proofs.Copies.{length-copy, octet-copy, copy-keeps, copy-zeros, copy-blanks}
 
@@ -65,14 +65,14 @@ inventory-same f g walks fields text =
     ap (λ t. by t (decoded f (walked unlimited f .sections))) walks ∙ ap (by (walked unlimited g)) fields
   where
     by : Told → List SectionFields → TextWritten
-    by t said = inventoryBy (t .outcome) (forEach (t .lines) (entryAt (t .sections) said)) text
+    by t said = inventoryBy (t .outcome) (forEach (t .lines) (entryAt said)) text
 
 -- what is decoded of two files that are listed alike, and have the same of each section
 decoding-same : (terms : Terms) → Spared terms → (f g : List ℕ) → length f ≡ length g → listing f ≡ listing g
     → Each (Seen terms f g) (listing f .sections) → (room : Room)
     → decoded f (walked room f .sections) ≡ decoded g (walked room g .sections)
 decoding-same terms s f g same e seen room =
-    rw (← walked-same room f g same e)
+    rw (← walked-same room f g same e (spans-same terms s f g same (listing f .sections) seen))
     (decoded-same terms s f g same (walked room f .sections) (fewer (Seen terms f g) room f seen))
 
 module _ (terms : Terms) (passed : isBlind terms ≡ true) where
@@ -92,12 +92,15 @@ module _ (terms : Terms) (passed : isBlind terms ≡ true) where
     unfolding listing
     seen = seen-from terms f g (length f + 1) 0 0 (λ k _ _ h. agrees k h)
 
+    one-walk : (room : Room) → walked room f ≡ walked room g
+    one-walk room = walked-same room f g same same-listing (spans-same terms (spared terms passed) f g same (listing f .sections) seen)
+
     same-stays : (k : ℕ) → stays terms g (walked unlimited g .sections) k ≡ stays terms f (walked unlimited f .sections) k
     unfolding stays
     same-stays k =
         let listed = fewer (Seen terms f g) unlimited f seen in
         let m = messages-same terms (spared terms passed) f g same (walked unlimited f .sections) listed k in
-        rw (← walked-same unlimited f g same same-listing, m)
+        rw (← one-walk unlimited, m)
 
     same-copy : walked unlimited f .outcome ≡ Clean → publicCopy terms f ≡ publicCopy terms g
     unfolding stays
@@ -123,7 +126,7 @@ module _ (terms : Terms) (passed : isBlind terms ≡ true) where
     same-call : (dest : List ℕ) → copyOf terms f dest ≡ copyOf terms g dest
     unfolding copyOf
     same-call dest =
-        rw (← same, ← walked-same unlimited f g same same-listing) (
+        rw (← same, ← one-walk unlimited) (
         same-pick (ltb 1099511627776 (length f)) (λ _. refl) λ _.
         same-pick (ltb (length dest) (length f)) (λ _. refl) λ _.
         same-outcome dest (walked unlimited f .outcome) refl)
@@ -132,10 +135,10 @@ module _ (terms : Terms) (passed : isBlind terms ≡ true) where
     one =
         record {
           one-listing = same-listing;
-          one-walk = λ r. walked-same r f g same same-listing;
-          one-tables = λ rows lines. tables-same f g rows lines (walked-same (roomOf (length rows) (length lines)) f g same same-listing);
+          one-walk = one-walk;
+          one-tables = λ rows lines. tables-same f g rows lines (one-walk (roomOf (length rows) (length lines)));
           one-decoding = decoding-same terms (spared terms passed) f g same same-listing seen;
-          one-inventory = inventory-same f g (walked-same unlimited f g same same-listing)
+          one-inventory = inventory-same f g (one-walk unlimited)
               (decoding-same terms (spared terms passed) f g same same-listing seen unlimited);
           one-copy = same-copy;
           one-call = same-call;
@@ -173,7 +176,10 @@ module _ (terms : Terms) (passed : isBlind terms ≡ true) where
     copy-seen = seen-from terms f copy (length f + 1) 0 0 (λ k _. keeps k)
 
     copy-walks : (room : Room) → walked room copy ≡ walked room f
-    copy-walks room = sym (walked-same room f copy (sym (length-copy terms f)) copy-listed)
+    copy-walks room =
+        sym
+        (walked-same room f copy (sym (length-copy terms f)) copy-listed
+        (spans-same terms (spared terms passed) f copy (sym (length-copy terms f)) (listing f .sections) copy-seen))
 
     copy-decodes : (room : Room) → decoded copy (walked room copy .sections) ≡ decoded f (walked room f .sections)
     copy-decodes room =

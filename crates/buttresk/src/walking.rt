@@ -4,7 +4,7 @@ ghost use Rattle.walk_numbers.specs.Numbers.{walkNumbers};
 use walk_numbers::WalkAnswer;
 use walk_numbers::walk_numbers;
 
-// Walks a file. The tables are lent as numbers, three to a section's row and twelve to a line; what
+// Walks a file. The tables are lent as numbers, three to a section's row and fifteen to a line; what
 // is left over is no room. Lines that were stored before a refusal stand, and room beyond the
 // counts is untouched.
 #[no_mangle]

@@ -14,22 +14,30 @@ use Rattle.framing.proofs.Tests.{by-test}
 use Rattle.index.specs.Lines.{unlisted}
 use Rattle.index.specs.declared.line.LocalUsePlace.{LocalUsePlace}
 use Rattle.index.specs.declared.line.LocalUsePlace.the-variants.{At, Absent}
-use Rattle.index.specs.Pins.{ToldAt, LastBefore, LocalBefore, countOf}
+use Rattle.index.specs.Pins.{toldAt, ToldAt, LastBefore, LocalBefore, countOf}
 
 count-append : (number : ℕ) (a b : List Section) → countOf number (a ++ b) ≡ countOf number a + countOf number b
 count-append number [] b = omega arith
 count-append number (s ∷ a) b = let ih = count-append number a b in omega arith
 
 module _ (told : List Section) where
+  -- this section is told at a place
+  abbrev pub Here : ℕ → Section → Type 0
+  Here c s = (c < length told) × (toldAt told c ≡ s)
+
+  -- and so one of its number
+  pub by-number : {c : ℕ} {s : Section} → Here c s → ToldAt told (s .number) c
+  by-number here = (here .0, ap (λ (x : Section). x .number) (here .1))
+
   -- what is told from a place on says what stands there
   pub next-told : (c : ℕ) (s : Section) (more : List Section) → drop c told ≡ s ∷ more
-      → ToldAt told (s .number) c × (drop (c + 1) told ≡ more)
+      → Here c s × (drop (c + 1) told ≡ more)
   next-told c s more e =
       let here : c < length told = omega (arith, length-drop c told, ap length e) in
       let both = sym (drop-cons told c (unlisted .section) here) ∙ e in
       let first : getD told c (unlisted .section) ≡ s = cc in
       let rest : drop (suc c) told ≡ more = cc in
-      ((here, ap (λ (x : Section). x .number) first), rw add-one rest)
+      ((here, first), rw add-one rest)
 
   pub none-told : (number c : ℕ) → drop c told ≡ [] → Not (ToldAt told number c)
   none-told number c e (inside, _) = omega (arith, length-drop c told, ap length e)

@@ -16,18 +16,22 @@ use Rattle.order.specs.Order.{isBetween}
 use Rattle.order.specs.declared.Place.{Place}
 use Rattle.order.specs.declared.Order.{Order}
 use Rattle.order.specs.declared.Order.the-variants.{BetweenMessages, AfterIndicator, AfterData, SubmessageStart}
-use Rattle.index.specs.Lines.{place, opened, withLocal, withPlaces, inForce, withSubmessage, lineOf}
+use Rattle.index.specs.Lines.{place, opened, withSpan, withLocal, withPlaces, inForce, withSubmessage, lineOf}
 use Rattle.index.specs.declared.line.LocalUsePlace.the-variants.{At}
+use Rattle.index.specs.declared.line.MessageEnd.{MessageEnd}
+use Rattle.index.specs.declared.line.MessageEnd.the-variants.{GoesOn, ClosedAt}
+use Rattle.index.specs.declared.line.Span.{Span}
 use Rattle.index.specs.declared.line.Force.{Force}
-use Rattle.index.specs.Pins.{ToldAt, LastBefore, LocalBefore, countOf, PinnedLine}
-use Rattle.index.proofs.Counted.{apart, last-stays, last-was, last-is, local-stays, local-was, count-step, count-none}
+use Rattle.index.specs.Walk.{spanAt, spanBehind, comesInForce}
+use Rattle.index.specs.Pins.{toldAt, ToldAt, LastBefore, LocalBefore, countOf, PinnedLine}
+use Rattle.index.proofs.Counted.{Here, by-number, apart, last-stays, last-was, last-is, local-stays, local-was, count-step, count-none}
 use Rattle.index.proofs.Fitting.{level, waiting, Fitting, opening, within}
 
 -- the place that is kept for a number
 abbrev pub kept : Force → ℕ → ℕ
 kept f n = getD (f .places) n (place 0) .0
 
-module _ (told : List Section) where
+module _ (file : List ℕ) (told : List Section) where
   -- in a message that starts at z, where so many sections are told
   pub record Inside (c : ℕ) (order : Order) (f : Force) (z : ℕ) : Type 0 where
     pub room : length (f .places) ≡ 8
@@ -39,6 +43,7 @@ module _ (told : List Section) where
     pub local : LocalBefore told z c (f .local)
     pub each : (n : ℕ) → 1 ≤ n → n < level order → Not (n ≡ 2) → LastBefore told n z c (kept f n)
     pub data-last : waiting order ≡ 1 → kept f 7 + 1 ≡ c
+    pub stated : f .span ≡ spanAt file (toldAt told z .offset)
 
   pub data InForce (c : ℕ) : Order → Force → Type 0 where
     outside : {message : ℕ} → message ≡ countOf 0 (take c told) → InForce c BetweenMessages (opened message)
@@ -46,7 +51,7 @@ module _ (told : List Section) where
 
   -- a section 0 comes in force
   opens : (c message : ℕ) → message ≡ countOf 0 (take c told) → ToldAt told 0 c
-      → Inside (c + 1) AfterIndicator (inForce (opened message) 0 (place c)) c
+      → Inside (c + 1) AfterIndicator (withSpan (inForce (opened message) 0 (place c)) (spanAt file (toldAt told c .offset))) c
   unfolding inForce
   opens c message before here =
       record {
@@ -59,6 +64,7 @@ module _ (told : List Section) where
         local = λ k above below there. apart told there here (λ z. omega arith) (omega arith);
         each = λ n low high two. absurd (omega arith);
         data-last = λ e. absurd (omega arith);
+        stated = refl;
       }
 
   -- a section 1 to 7 comes in force
@@ -89,6 +95,7 @@ module _ (told : List Section) where
           local = rw two at (last-is told z-before here);
           each = λ k one below other. last-stays told here (λ e. omega arith) (i .each k one (lower k below other (λ e. omega arith)) other);
           data-last = λ e. let z = rw (ne-eqb n 7 (λ e. omega arith)) at seven in absurd (omega arith);
+          stated = i .stated;
         }
 
     as-place : Not (n ≡ 2) → Inside (c + 1) next (withPlaces f (set (f .places) n (place c))) z
@@ -104,6 +111,7 @@ module _ (told : List Section) where
           each = λ k one below two. by-test (λ (x : ℕ). LastBefore told k z (c + 1) (kept f′ k)) (eqb k n) {a = k} {b = k}
               (λ e. same k (eqb-true k n e)) (λ e. apart-from k one below two (eqb-false k n e));
           data-last = λ e. let last = kept-new 7 (sym (is-7 (eqb n 7) refl (sym seven ∙ e))) in omega arith;
+          stated = i .stated;
         }
       where
         f′ : Force
@@ -126,30 +134,31 @@ module _ (told : List Section) where
             (ap (λ (p : Place). p .0) (sym (getD-set-other (f .places) n k (place c) (place 0) differs)))
             (last-stays told here differs (i .each k one (lower k below two differs) two))
 
-    in-place : Inside (c + 1) next (inForce f n (place c)) z
+    in-place : Inside (c + 1) next (withSpan (inForce f n (place c)) (f .span)) z
     unfolding inForce
     in-place =
-        by-test (λ (g : Force). Inside (c + 1) next g z) (eqb n 2) (λ e. as-local (eqb-true n 2 e)) λ e.
-        by-test (λ (g : Force). Inside (c + 1) next g z) (ltb n 8) (λ below. as-place (eqb-false n 2 e)) λ above.
+        by-test (λ (g : Force). Inside (c + 1) next (withSpan g (f .span)) z) (eqb n 2) (λ e. as-local (eqb-true n 2 e)) λ e.
+        by-test (λ (g : Force). Inside (c + 1) next (withSpan g (f .span)) z) (ltb n 8) (λ below. as-place (eqb-false n 2 e)) λ above.
         absurd (omega (arith, ltb-false n 8 above))
 
   -- any section that fits
-  pub comes : (c n : ℕ) {order next : Order} {f : Force} → InForce c order f → Fitting n order next → ToldAt told n c
-      → InForce (c + 1) next (inForce f n (place c))
-  unfolding isBetween
-  comes c n (outside {message} count) (opening zeroth) here =
-      subst (λ (k : ℕ). InForce (c + 1) AfterIndicator (inForce (opened message) k (place c))) (sym zeroth)
-      (inside refl c (opens c message count (rw zeroth at here)))
-  comes c n (outside count) (within was ajar low high none seven lower) here = absurd (never-both refl was)
-  comes c n (inside ajar z i) (opening zeroth) here = absurd (never-both refl ajar)
-  comes c n {order} {next} {f} (inside was z i) (within _ ajar low high none seven lower) here =
-      inside ajar z (in-place c order next f z n i here low high none seven lower)
+  pub comes : (c : ℕ) (s : Section) {order next : Order} {f : Force} → InForce c order f → Fitting (s .number) order next → Here told c s
+      → InForce (c + 1) next (comesInForce file f s (place c))
+  unfolding isBetween spanBehind
+  comes c s (outside {message} count) (opening zeroth) here =
+      rw (zeroth, ← (here .1))
+      (inside refl c (opens c message count (here .0, ap (λ (x : Section). x .number) (here .1) ∙ zeroth)))
+  comes c s (outside count) (within was ajar low high none seven lower) here = absurd (never-both refl was)
+  comes c s (inside ajar z i) (opening zeroth) here = absurd (never-both refl ajar)
+  comes c s {order} {next} {f} (inside was z i) (within _ ajar low high none seven lower) here =
+      rw (ne-eqb (s .number) 0 (λ e. omega arith))
+      (inside ajar z (in-place c order next f z (s .number) i (by-number told here) low high none seven lower))
 
   -- the line of the submessage in hand
-  pinned : (f : Force) (end : Place) → Inside (kept f 7 + 1) AfterData f (kept f 0)
-      → (ToldAt told 8 (kept f 7 + 1) → end .0 ≡ kept f 7 + 1) → (Not (ToldAt told 8 (kept f 7 + 1)) → end .0 ≡ 0)
-      → PinnedLine told (lineOf f end)
-  unfolding lineOf
+  pinned : (f : Force) (end : MessageEnd) → Inside (kept f 7 + 1) AfterData f (kept f 0)
+      → (ToldAt told 8 (kept f 7 + 1) → end ≡ ClosedAt (place (kept f 7 + 1))) → (Not (ToldAt told 8 (kept f 7 + 1)) → end ≡ GoesOn)
+      → PinnedLine file told (lineOf f end)
+  unfolding lineOf spanAt
   pinned f end i closed goes-on =
       record {
         values = seventh;
@@ -168,6 +177,8 @@ module _ (told : List Section) where
             omega arith;
         closed = closed;
         goes-on = goes-on;
+        offset = ap (λ (e : Span). e .offset) (i .stated);
+        total = rw (i .stated) refl;
       }
     where
       seventh : ToldAt told 7 (kept f 7)
@@ -180,8 +191,8 @@ module _ (told : List Section) where
   in-hand {c} {order} {f} (inside ajar z i) e =
       let here = subst₂ (λ (o : Order) (k : ℕ). Inside c o f k) e (sym (i .start)) i in (here .data-last refl, here)
 
-  pub line-of : {c : ℕ} {order : Order} {f : Force} → InForce c order f → order ≡ AfterData → (end : Place)
-      → (ToldAt told 8 c → end .0 ≡ c) → (Not (ToldAt told 8 c) → end .0 ≡ 0) → PinnedLine told (lineOf f end)
+  pub line-of : {c : ℕ} {order : Order} {f : Force} → InForce c order f → order ≡ AfterData → (end : MessageEnd)
+      → (ToldAt told 8 c → end ≡ ClosedAt (place c)) → (Not (ToldAt told 8 c) → end ≡ GoesOn) → PinnedLine file told (lineOf f end)
   line-of {f = f} force e end closed goes-on =
       let (next, i) = in-hand force e in
       pinned f end (rw (← next) at i) (rw (← next) at closed) (rw (← next) at goes-on)
@@ -199,6 +210,7 @@ module _ (told : List Section) where
         local = i .local;
         each = i .each;
         data-last = λ e. absurd (omega arith);
+        stated = i .stated;
       }
 
   pub gone-on : {c : ℕ} {f : Force} → InForce c AfterData f → InForce c SubmessageStart (withSubmessage f (f .submessage + 1))

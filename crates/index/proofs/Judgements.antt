@@ -10,16 +10,17 @@ use Rattle.order.specs.Order.{judged, completes}
 use Rattle.order.specs.declared.Order.{Order}
 use Rattle.order.specs.declared.Order.the-variants.{BetweenMessages, SubmessageStart}
 use Rattle.order.specs.declared.Judged.the-variants as judged
-use Rattle.index.specs.Lines.{place, opened, inForce, lineOf}
+use Rattle.index.specs.Lines.{place, opened, lineOf}
+use Rattle.index.specs.declared.line.MessageEnd.the-variants.{GoesOn, ClosedAt}
 use Rattle.index.specs.declared.line.Line.{Line}
 use Rattle.index.specs.declared.refusal.Refusal.the-variants as refusal
 use Rattle.index.specs.declared.bounds.Room.{Room}
-use Rattle.index.specs.Walk.{Reached, stops, passes, here, fitted, closing, byOrder, judgement}
+use Rattle.index.specs.Walk.{Reached, stops, passes, here, comesInForce, fitted, closing, byOrder, judgement}
 
 module _ (room : Room) (r : Reached) (s : Section) where
   -- the line of the submessage in hand, whose message goes on
   abbrev line : Line
-  line = lineOf (r .force) (place 0)
+  line = lineOf (r .force) GoesOn
 
   -- a submessage that goes on: 14 comes first
   pub going-on-no-line : completes (r .order) (s .number) ≡ true → room .lines ≤ r .lines
@@ -62,11 +63,12 @@ module _ (room : Room) (r : Reached) (s : Section) where
       → fitted room r s lines next
       ≡ passes lines 0
       (record {
+        file = r .file;
         sections = r .sections + 1;
         lines = r .lines;
         last = here r s;
         order = next;
-        force = inForce (r .force) (s .number) (place (r .sections));
+        force = comesInForce (r .file) (r .force) s (place (r .sections));
       })
   unfolding fitted
   fitted-passes lines next free = rw (lt-leb _ _ free)
@@ -84,8 +86,9 @@ module _ (room : Room) (r : Reached) (s : Section) where
   -- else both, one message more is closed, and the next begins with nothing in force
   pub closing-closes : r .sections < room .rows → r .lines < room .lines
       → closing room r s
-      ≡ passes (lineOf (r .force) (place (r .sections)) ∷ []) 1
+      ≡ passes (lineOf (r .force) (ClosedAt (place (r .sections))) ∷ []) 1
       (record {
+        file = r .file;
         sections = r .sections + 1;
         lines = r .lines + 1;
         last = here r s;

@@ -8,12 +8,15 @@ use lib.Dec.{ltb, eqb}
 use lib.ListN.{length, getD, take, drop}
 use borrow.Author.Tests.{ltb-true, ltb-false, eqb-true, eqb-false}
 use Rattle.octets.specs.Words.{Not}
+use Rattle.octets.specs.BigEndian.{beAt}
+use Rattle.framing.specs.declared.read.Offset.{Offset}
 use Rattle.framing.specs.declared.read.Section.{Section}
 use Rattle.order.specs.declared.Place.{Place}
-use Rattle.index.specs.Lines.{unlisted}
+use Rattle.index.specs.Lines.{place, unlisted}
 use Rattle.index.specs.declared.line.LocalUsePlace.{LocalUsePlace}
 use Rattle.index.specs.declared.line.LocalUsePlace.the-variants.{At, Absent}
-use Rattle.index.specs.Pins.{ToldAt, LastBefore, LocalBefore, countOf, OneLine}
+use Rattle.index.specs.declared.line.MessageEnd.the-variants.{ClosedAt}
+use Rattle.index.specs.Pins.{toldAt, ToldAt, LastBefore, LocalBefore, countOf, OneLine}
 
 -- two places are one where their numbers are
 same-place : (p q : Place) → p .0 ≡ q .0 → p ≡ q
@@ -45,7 +48,7 @@ module _ (told : List Section) where
       inside false e = absent (λ so. let low = so .0 in omega (arith, ltb-false p (length told) e))
 
 pub one-line : OneLine
-one-line told a b p q v = λ i.
+one-line file told a b p q v = λ i.
     record {
       message = (p .message ∙ ap (λ (k : ℕ). countOf 0 (take k told)) start ∙ sym (q .message)) i;
       submessage = (p .submessage ∙ ap₂ (λ (k m : ℕ). countOf 7 (drop k (take m told))) start v ∙ sym (q .submessage)) i;
@@ -57,7 +60,8 @@ one-line told a b p q v = λ i.
       representation = same-place (a .representation) (b .representation) (same (p .representation) (q .representation)) i;
       bitmap = same-place (a .bitmap) (b .bitmap) (same (p .bitmap) (q .bitmap)) i;
       values = same-place (a .values) (b .values) v i;
-      end = same-place (a .end) (b .end) end i;
+      end = end i;
+      span = record { offset = offset i; total = total i };
     }
   where
     start : a .indicator .0 ≡ b .indicator .0
@@ -66,8 +70,14 @@ one-line told a b p q v = λ i.
     same : {n x y : ℕ} → LastBefore told n (a .indicator .0) (a .values .0) x → LastBefore told n (b .indicator .0) (b .values .0) y → x ≡ y
     same l m = one-last told (rw (start, v) at l) m
 
-    end : a .end .0 ≡ b .end .0
+    end : a .end ≡ b .end
     end =
-        by-told told 8 (a .values .0 + 1) (a .end .0 ≡ b .end .0)
-        (λ there. p .closed there ∙ ap (λ (k : ℕ). k + 1) v ∙ sym (q .closed (rw v at there)))
+        by-told told 8 (a .values .0 + 1) (a .end ≡ b .end)
+        (λ there. p .closed there ∙ ap (λ (k : ℕ). ClosedAt (place (k + 1))) v ∙ sym (q .closed (rw v at there)))
         (λ absent. p .goes-on absent ∙ sym (q .goes-on (rw v at absent)))
+
+    offset : a .span .offset ≡ b .span .offset
+    offset = p .offset ∙ ap (λ (k : ℕ). toldAt told k .offset) start ∙ sym (q .offset)
+
+    total : a .span .total ≡ b .span .total
+    total = p .total ∙ ap (λ (o : Offset). beAt file (o .0 + 8) 8) offset ∙ sym (q .total)

@@ -20,6 +20,7 @@ use Rattle.order.specs.declared.Judged.{Judged}
 use Rattle.order.specs.declared.Judged.the-variants as says
 use Rattle.order.proofs.Laws.{closes-only, no-grid-only, completes-only}
 use Rattle.index.specs.Lines.{place, lineOf}
+use Rattle.index.specs.declared.line.MessageEnd.the-variants.{GoesOn, ClosedAt}
 use Rattle.index.specs.declared.line.Line.{Line}
 use Rattle.index.specs.declared.bounds.Room.{Room}
 use Rattle.index.specs.Walk.{
@@ -54,7 +55,7 @@ use Rattle.index.specs.Pins.{
   ALineForEach7,
 }
 use Rattle.index.proofs.Rows.{fault-number}
-use Rattle.index.proofs.Counted.{next-told, none-told, apart, count-step}
+use Rattle.index.proofs.Counted.{Here, by-number, next-told, none-told, apart, count-step}
 use Rattle.index.proofs.Fitting.{waiting, fitting, fitting-waits, idle, waits}
 use Rattle.index.proofs.InForce.{InForce, outside, comes, in-hand, line-of, gone-on}
 
@@ -70,23 +71,24 @@ held-new : (t : Bool) (c : ℕ) → pick t (c ∷ []) [] ≡ held (pick t 1 0) (
 held-new true c = ap (λ (k : ℕ). k ∷ []) (omega arith)
 held-new false c = refl
 
-module _ (told : List Section) (r : Reached) (s : Section) (force : InForce told (r .sections) (r .order) (r .force)) where
+module _ (told : List Section) (r : Reached) (s : Section) (force : InForce (r .file) told (r .sections) (r .order) (r .force)) where
   record Stopped (lines : List Line) (n : ℕ) : Type 0 where
-    pins : Every (PinnedLine told) lines
+    pins : Every (PinnedLine (r .file) told) lines
     told-7 : ((held (waiting (r .order)) (r .sections) ≡ valuesPlaces lines) × (waiting (r .order) ≡ 1 → AfterCompleting n))
         ⊎ ((lines ≡ []) × BeforeCompleting n)
 
   record Passed (lines : List Line) (reached : Reached) : Type 0 where
     one : reached .sections ≡ r .sections + 1
-    pins : Every (PinnedLine told) lines
-    force′ : InForce told (reached .sections) (reached .order) (reached .force)
+    same-file : reached .file ≡ r .file
+    pins : Every (PinnedLine (r .file) told) lines
+    force′ : InForce (r .file) told (reached .sections) (reached .order) (reached .force)
     last-7 : waiting (reached .order) ≡ pick (eqb (s .number) 7) 1 0
     told-7 : held (waiting (r .order)) (r .sections) ++ pick (eqb (s .number) 7) (r .sections ∷ []) []
         ≡ valuesPlaces lines ++ held (waiting (reached .order)) (r .sections + 1)
 
   abbrev Pins : Judgement → Type 0
   Pins (stops lines why) = drop (r .sections) told ≡ [] → Stopped lines (refusalNumber why)
-  Pins (passes lines closed reached) = ToldAt told (s .number) (r .sections) → Passed lines reached
+  Pins (passes lines closed reached) = Here told (r .sections) s → Passed lines reached
 
   silent : (n : ℕ) → waiting (r .order) ≡ 0 → Stopped [] n
   silent n none =
@@ -102,8 +104,9 @@ module _ (told : List Section) (r : Reached) (s : Section) (force : InForce told
       by-test Pins (leb (room .rows) (r .sections)) (λ full end. silent 13 none) λ free here.
       record {
         one = refl;
+        same-file = refl;
         pins = tt;
-        force′ = comes told (r .sections) (s .number) force fits here;
+        force′ = comes (r .file) told (r .sections) s force fits here;
         last-7 = seven;
         told-7 =
             ap (λ (k : ℕ). held k (r .sections) ++ pick (eqb (s .number) 7) (r .sections ∷ []) []) none
@@ -112,17 +115,22 @@ module _ (told : List Section) (r : Reached) (s : Section) (force : InForce told
       }
   plain off room says.Closes e =
       let (order, eight) = closes-only (r .order) (s .number) e in
-      let (next, i) = in-hand told force order in
+      let (next, i) = in-hand (r .file) told force order in
       by-test Pins (leb (room .rows) (r .sections))
       (λ full end. record { pins = tt; told-7 = inr (refl, inr (inl refl)) }) λ free.
       by-test Pins (leb (room .lines) (r .lines))
       (λ full end. record { pins = tt; told-7 = inr (refl, inr (inr refl)) }) λ line here.
       record {
         one = refl;
-        pins = (line-of told force order (place (r .sections)) (λ there. refl) (λ absent. absurd (absent (rw eight at here))), tt);
+        same-file = refl;
+        pins = (
+          line-of (r .file) told force order (ClosedAt (place (r .sections))) (λ there. refl)
+              (λ absent. absurd (absent (rw eight at (by-number told here)))),
+          tt,
+        );
         force′ =
             outside
-            (let step = rw (ne-eqb (s .number) 0 (λ z. omega arith)) at (count-step told 0 (s .number) 0 (r .sections) (omega arith) here) in
+            (let step = rw (ne-eqb (s .number) 0 (λ z. omega arith)) at (count-step told 0 (s .number) 0 (r .sections) (omega arith) (by-number told here)) in
             let old = i .so-far in omega arith);
         last-7 = rw (ne-eqb (s .number) 7 (λ z. omega arith));
         told-7 =
@@ -144,31 +152,33 @@ module _ (told : List Section) (r : Reached) (s : Section) (force : InForce told
     order = completes-only (r .order) (s .number) on .0
 
     -- its line stands where the section is refused
-    spoken : (n : ℕ) → AfterCompleting n → drop (r .sections) told ≡ [] → Stopped (lineOf (r .force) (place 0) ∷ []) n
+    spoken : (n : ℕ) → AfterCompleting n → drop (r .sections) told ≡ [] → Stopped (lineOf (r .force) GoesOn ∷ []) n
     unfolding lineOf
     spoken n after end =
-        let (next, i) = in-hand told force order in
+        let (next, i) = in-hand (r .file) told force order in
         record {
-          pins = (line-of told force order (place 0) (λ there. absurd (none-told told 8 (r .sections) end there)) (λ absent. refl), tt);
+          pins = (line-of (r .file) told force order GoesOn (λ there. absurd (none-told told 8 (r .sections) end there)) (λ absent. refl), tt);
           told-7 = inl (ap (λ (o : Order). held (waiting o) (r .sections)) order ∙ ap (λ (k : ℕ). k ∷ []) (omega arith), λ one. after);
         }
 
     going : (room : Room) (j : Judged) → judged SubmessageStart (s .number) ≡ j
-        → Pins (byOrder j room (goneOn r) s (lineOf (r .force) (place 0) ∷ []))
+        → Pins (byOrder j room (goneOn r) s (lineOf (r .force) GoesOn ∷ []))
     unfolding byOrder fitted refusalNumber lineOf completes
     going room (says.Fits next) e =
         let fits = fitting SubmessageStart (s .number) refl e in
         let (none, seven) = fitting-waits fits in
-        let (before, i) = in-hand told force order in
+        let (before, i) = in-hand (r .file) told force order in
         by-test Pins (leb (room .rows) (r .sections)) (λ full end. spoken 13 (inr refl) end) λ free here.
         record {
           one = refl;
+          same-file = refl;
           pins = (
-            line-of told force order (place 0) (λ there. absurd (completes-only (r .order) (s .number) on .1 (sym (here .1) ∙ there .1)))
+            line-of (r .file) told force order GoesOn
+                (λ there. absurd (completes-only (r .order) (s .number) on .1 (sym (by-number told here .1) ∙ there .1)))
                 (λ absent. refl),
             tt,
           );
-          force′ = comes told (r .sections) (s .number) (gone-on told (rw order at force)) fits here;
+          force′ = comes (r .file) told (r .sections) s (gone-on (r .file) told (rw order at force)) fits here;
           last-7 = seven;
           told-7 =
               ap (λ (o : Order). held (waiting o) (r .sections) ++ pick (eqb (s .number) 7) (r .sections ∷ []) []) order
@@ -204,7 +214,7 @@ picked : (t : Bool) (c : ℕ) (later : List ℕ) → pick t (c ∷ later) later 
 picked true c later = refl
 picked false c later = refl
 
-module _ (told : List Section) where
+module _ (file : List ℕ) (told : List Section) where
   -- lines before
   lines-before : (lines : List Line) (more : List Line) (places : List ℕ) (n : ℕ) → LineForEach7 told places (valuesPlaces more) n
       → LineForEach7 told (valuesPlaces lines ++ places) (valuesPlaces (lines ++ more)) n
@@ -218,16 +228,18 @@ module _ (told : List Section) where
 
   -- a stand: what is in force, and that a last section 7 waits
   record Stand (r : Reached) : Type 0 where
-    force : InForce told (r .sections) (r .order) (r .force)
+    same-file : r .file ≡ file
+    force : InForce (r .file) told (r .sections) (r .order) (r .force)
     held-back : (v : ℕ) → v + 1 ≡ r .sections → waiting (r .order) ≡ 0 → Not (ToldAt told 7 v)
     few : r .sections ≤ length told
 
-  next-stand : (r : Reached) (s : Section) (force : InForce told (r .sections) (r .order) (r .force)) {lines : List Line} {reached : Reached}
-      → ToldAt told (s .number) (r .sections) → Passed told r s force lines reached → Stand reached
-  next-stand r s force {reached = reached} here p =
+  next-stand : (r : Reached) (s : Section) → r .file ≡ file → (force : InForce (r .file) told (r .sections) (r .order) (r .force))
+      {lines : List Line} {reached : Reached} → Here told (r .sections) s → Passed told r s force lines reached → Stand reached
+  next-stand r s same force {reached = reached} here p =
       record {
-        force = p .force′;
-        held-back = λ v e none there. apart told there here
+        same-file = p .same-file ∙ same;
+        force = subst (λ (f : List ℕ). InForce f told (reached .sections) (reached .order) (reached .force)) (sym (p .same-file)) (p .force′);
+        held-back = λ v e none there. apart told there (by-number told here)
             (λ same. let one = rw (eq-eqb (s .number) 7 (sym same)) at (p .last-7) in omega arith) (let one = p .one in omega arith);
         few = let one = p .one in let inside = here .0 in omega arith;
       }
@@ -256,24 +268,24 @@ module _ (told : List Section) where
           (λ v last there. absurd (stand .held-back v (last ∙ sym all) none there))
       go (inr seven) (inl (e, after)) = each (append-nil _ ∙ e) (λ v last there. after (ap waiting seven))
       go (inr seven) (inr (empty, before)) =
-          let one = in-hand told (stand .force) seven .0 in
+          let one = in-hand (r .file) told (stand .force) seven .0 in
           butTheLast (r .sections - 1)
           (append-nil _ ∙ ap (λ (o : Order). held (waiting o) (r .sections)) seven
           ∙ ap (λ (l : List Line). valuesPlaces l ++ ((r .sections - 1) ∷ [])) (sym empty))
           (let all′ = all in omega arith) (before seven)
 
 -- from every stand on
-module _ (told : List Section) (room : Room) (ending : Ending) where
+module _ (file : List ℕ) (told : List Section) (room : Room) (ending : Ending) where
   record Pinned (r : Reached) (t : Told) : Type 0 where
-    lines-so : Every (PinnedLine told) (t .lines)
+    lines-so : Every (PinnedLine file told) (t .lines)
     each-so : LineForEach7 told (held (waiting (r .order)) (r .sections) ++ placesFrom 7 (r .sections) (t .sections))
         (valuesPlaces (t .lines)) (endOf (t .outcome) .outcome)
 
-  pinned-from : (sections : List Section) (r : Reached) → Stand told r → drop (r .sections) told ≡ walkedFrom room r sections ending .sections
+  pinned-from : (sections : List Section) (r : Reached) → Stand file told r → drop (r .sections) told ≡ walkedFrom room r sections ending .sections
       → Pinned r (walkedFrom room r sections ending)
   unfolding walkedFrom endOf
   pinned-from [] r stand rest =
-      record { lines-so = tt; each-so = last-stand told r [] _ stand rest (inr (refl, unfinished r ending)) }
+      record { lines-so = tt; each-so = last-stand file told r [] _ stand rest (inr (refl, unfinished r ending)) }
   pinned-from (s ∷ sections) r stand rest =
       go (judgement room r s) (judgement-pins told r s (stand .force) room) rest (pinned-from sections)
     where
@@ -291,42 +303,44 @@ module _ (told : List Section) (room : Room) (ending : Ending) where
 
       go : (j : Judgement) → Pins told r s (stand .force) j
           → drop (r .sections) told ≡ followed r s j (λ reached. walkedFrom room reached sections ending) .sections
-          → ((reached : Reached) → Stand told reached → drop (reached .sections) told ≡ walkedFrom room reached sections ending .sections
+          → ((reached : Reached) → Stand file told reached → drop (reached .sections) told ≡ walkedFrom room reached sections ending .sections
           → Pinned reached (walkedFrom room reached sections ending))
           → Pinned r (followed r s j (λ reached. walkedFrom room reached sections ending))
       go (stops lines why) pins rest later =
           record {
-            lines-so = pins rest .pins;
-            each-so = last-stand told r lines _ stand rest (⊎-map (λ x. x) (λ x. (x .0, λ seven. x .1)) (pins rest .told-7));
+            lines-so = subst (λ (f : List ℕ). Every (PinnedLine f told) lines) (stand .same-file) (pins rest .pins);
+            each-so = last-stand file told r lines _ stand rest (⊎-map (λ x. x) (λ x. (x .0, λ seven. x .1)) (pins rest .told-7));
           }
       go (passes lines closed reached) pins rest later =
           let t = walkedFrom room reached sections ending in
           let (here, more) = next-told told (r .sections) s (t .sections) rest in
           let p = pins here in
-          let tail = later reached (next-stand told r s (stand .force) here p) (rw (← (p .one)) at more) in
+          let tail = later reached (next-stand file told r s (stand .same-file) (stand .force) here p) (rw (← (p .one)) at more) in
           record {
-            lines-so = every-append (PinnedLine told) lines (t .lines) (p .pins) (tail .lines-so);
+            lines-so =
+                every-append (PinnedLine file told) lines (t .lines)
+                (subst (λ (f : List ℕ). Every (PinnedLine f told) lines) (stand .same-file) (p .pins)) (tail .lines-so);
             each-so =
                 subst (λ (l : List ℕ). LineForEach7 told l (valuesPlaces (lines ++ t .lines)) (endOf (t .outcome) .outcome))
                 (sym (joined lines reached (t .sections) p))
-                (lines-before told lines (t .lines) (held (waiting (reached .order)) (reached .sections)
+                (lines-before file told lines (t .lines) (held (waiting (reached .order)) (reached .sections)
                 ++ placesFrom 7 (reached .sections) (t .sections)) _ (tail .each-so));
           }
 
 -- of a whole walk
-start : (told : List Section) → Stand told atStart
-start told = record { force = outside refl; held-back = λ v e none there. omega arith; few = omega arith }
+start : (file : List ℕ) (told : List Section) → Stand file told (atStart file)
+start file told = record { same-file = refl; force = outside refl; held-back = λ v e none there. omega arith; few = omega arith }
 
 whole : (room : Room) (file : List ℕ)
-    → let t = walkedFrom room atStart (listing file .sections) (listing file .ending) in
-    Pinned (t .sections) room (listing file .ending) atStart t
-whole room file = let told = walkedFrom room atStart (listing file .sections) (listing file .ending) .sections in
-    pinned-from told room (listing file .ending) (listing file .sections) atStart (start told) refl
+    → let t = walkedFrom room (atStart file) (listing file .sections) (listing file .ending) in
+    Pinned file (t .sections) room (listing file .ending) (atStart file) t
+whole room file = let told = walkedFrom room (atStart file) (listing file .sections) (listing file .ending) .sections in
+    pinned-from file told room (listing file .ending) (listing file .sections) (atStart file) (start file told) refl
 
 pub lines-are-pinned : LinesArePinned
 unfolding walked
 lines-are-pinned room file =
-    by-test (λ (t : Told). Every (PinnedLine (t .sections)) (t .lines)) (ltb 1099511627776 (length file)) (λ long. tt) λ short.
+    by-test (λ (t : Told). Every (PinnedLine file (t .sections)) (t .lines)) (ltb 1099511627776 (length file)) (λ long. tt) λ short.
     whole room file .lines-so
 
 pub a-line-for-each-7 : ALineForEach7

@@ -120,7 +120,7 @@ whole : (room : Room) (file : List ℕ) → Whole file (walked room file)
 unfolding walked endOf refusalNumber
 whole room file =
     by-test (Whole file) (ltb 1099511627776 (length file)) (λ long. inl (refl, refl))
-    (λ short. inr (tells room atStart (listing file .sections) (listing file .ending)))
+    (λ short. inr (tells room (atStart file) (listing file .sections) (listing file .ending)))
 
 pub rows-are-laid-out : RowsAreLaidOut
 rows-are-laid-out room file = go (walked room file) (whole room file)

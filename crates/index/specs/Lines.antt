@@ -5,9 +5,12 @@ use lib.Dec.{eqb, ltb}
 use lib.ListN.{getD, set, replicate}
 use Rattle.octets.specs.Words.{pick}
 use Rattle.sections.specs.Kinds as kinds
+use Rattle.framing.specs.declared.read.Offset.{Offset}
 use Rattle.order.specs.declared.Place.{Place}
 use Rattle.index.specs.declared.line.LocalUsePlace.{LocalUsePlace}
 use Rattle.index.specs.declared.line.LocalUsePlace.the-variants.{At, Absent}
+use Rattle.index.specs.declared.line.MessageEnd.{MessageEnd}
+use Rattle.index.specs.declared.line.Span.{Span}
 use Rattle.index.specs.declared.line.Force.{Force}
 use Rattle.index.specs.declared.line.Line.{Line}
 use Rattle.index.specs.declared.listed.Listed.{Listed}
@@ -15,6 +18,10 @@ use Rattle.index.specs.declared.listed.Listed.{Listed}
 -- a place of the list, by its number
 abbrev pub place : ℕ → Place
 place n = record { 0 = n }
+
+-- where a message stands: the octet offset of its section 0, and the total length stated there
+abbrev pub span : Offset → ℕ → Span
+span offset total = record { offset = offset; total = total }
 
 -- before the first section of a file; nothing asks for it until a section is listed
 abbrev pub unlisted : Listed
@@ -31,17 +38,46 @@ everyPlace p = replicate (kinds.endSection .number) p
 -- a message, before its first section; no line is made before all its sections are read
 abbrev pub opened : ℕ → Force
 opened message =
-    record { message = message; submessage = 0; local = Absent; places = everyPlace (place 0) }
+    record {
+      message = message;
+      submessage = 0;
+      span = span (record { 0 = 0 }) 0;
+      local = Absent;
+      places = everyPlace (place 0);
+    }
+
+-- the same, in a message that stands there
+abbrev pub withSpan : Force → Span → Force
+withSpan f span =
+    record {
+      message = f .message;
+      submessage = f .submessage;
+      span = span;
+      local = f .local;
+      places = f .places;
+    }
 
 -- the same, with another section 2
 abbrev pub withLocal : Force → LocalUsePlace → Force
 withLocal f local =
-    record { message = f .message; submessage = f .submessage; local = local; places = f .places }
+    record {
+      message = f .message;
+      submessage = f .submessage;
+      span = f .span;
+      local = local;
+      places = f .places;
+    }
 
 -- the same, with other places
 abbrev pub withPlaces : Force → List Place → Force
 withPlaces f places =
-    record { message = f .message; submessage = f .submessage; local = f .local; places = places }
+    record {
+      message = f .message;
+      submessage = f .submessage;
+      span = f .span;
+      local = f .local;
+      places = places;
+    }
 
 -- a section comes in force at its place: it replaces the one of its number, and no other; an end
 -- section is never in force
@@ -54,11 +90,16 @@ inForce f number here =
 -- the next submessage of the same message, where all stays in force
 abbrev pub withSubmessage : Force → ℕ → Force
 withSubmessage f submessage =
-    record { message = f .message; submessage = submessage; local = f .local; places = f .places }
+    record {
+      message = f .message;
+      submessage = submessage;
+      span = f .span;
+      local = f .local;
+      places = f .places;
+    }
 
--- the line of the submessage in hand, with the place of the section 8 behind it, or 0 where its
--- message goes on
-unfoldable pub lineOf : Force → Place → Line
+-- the line of the submessage in hand, by what stands behind it
+unfoldable pub lineOf : Force → MessageEnd → Line
 lineOf f end =
     record {
       message = f .message;
@@ -72,4 +113,5 @@ lineOf f end =
       bitmap = getD (f .places) (kinds.bitMap .number) (place 0);
       values = getD (f .places) (kinds.dataSection .number) (place 0);
       end = end;
+      span = f .span;
     }

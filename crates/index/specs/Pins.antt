@@ -9,11 +9,13 @@ use mathlib.Core.Logic.{_⊎_}
 use lib.Dec.{eqb}
 use lib.ListN.{length, getD, take, drop}
 use Rattle.octets.specs.Words.{pick, Not}
+use Rattle.octets.specs.BigEndian.{beAt}
 use Rattle.framing.specs.LaidOut.{LaidOut}
 use Rattle.framing.specs.declared.read.Section.{Section}
-use Rattle.index.specs.Lines.{unlisted}
+use Rattle.index.specs.Lines.{place, unlisted}
 use Rattle.index.specs.declared.line.LocalUsePlace.{LocalUsePlace}
 use Rattle.index.specs.declared.line.LocalUsePlace.the-variants.{At, Absent}
+use Rattle.index.specs.declared.line.MessageEnd.the-variants.{GoesOn, ClosedAt}
 use Rattle.index.specs.declared.line.Line.{Line}
 use Rattle.index.specs.declared.bounds.Room.{Room}
 use Rattle.index.specs.Walk.{walked}
@@ -49,9 +51,13 @@ JustReadStandsNext =
     → let end = endOf (walked room file .outcome) in
     11 ≤ end .outcome → StandsNext file (walked room file .sections) (end .offset)
 
+-- the section told at a place of the list
+abbrev pub toldAt : List Section → ℕ → Section
+toldAt told p = getD told p (unlisted .section)
+
 -- at a place of the list a section of this number is told
 abbrev pub ToldAt : List Section → ℕ → ℕ → Type 0
-ToldAt told number p = (p < length told) × (getD told p (unlisted .section) .number ≡ number)
+ToldAt told number p = (p < length told) × (toldAt told p .number ≡ number)
 
 -- from the place `from` on and before the place v, the last section of this number is told at p
 pub record LastBefore (told : List Section) (number from v p : ℕ) : Type 0 where
@@ -72,7 +78,7 @@ countOf number (s ∷ more) = pick (eqb (s .number) number) 1 0 + countOf number
 
 -- a line: its section 7 stands at the place `values`; its message starts at the last section 0
 -- before that, and from there on the other sections are the last of their numbers
-pub record PinnedLine (told : List Section) (line : Line) : Type 0 where
+pub record PinnedLine (file : List ℕ) (told : List Section) (line : Line) : Type 0 where
   pub values : ToldAt told 7 (line .values .0)
   pub indicator : LastBefore told 0 0 (line .values .0) (line .indicator .0)
   pub identification :
@@ -87,20 +93,24 @@ pub record PinnedLine (told : List Section) (line : Line) : Type 0 where
   pub message : line .message ≡ countOf 0 (take (line .indicator .0) told)
   pub submessage :
       line .submessage ≡ countOf 7 (drop (line .indicator .0) (take (line .values .0) told))
-  -- the end place is the next place where a section 8 is told there, and 0 elsewhere
-  pub closed : ToldAt told 8 (line .values .0 + 1) → line .end .0 ≡ line .values .0 + 1
-  pub goes-on : Not (ToldAt told 8 (line .values .0 + 1)) → line .end .0 ≡ 0
+  -- it is closed at the next place where a section 8 is told there, and elsewhere goes on
+  pub closed : ToldAt told 8 (line .values .0 + 1)
+      → line .end ≡ ClosedAt (place (line .values .0 + 1))
+  pub goes-on : Not (ToldAt told 8 (line .values .0 + 1)) → line .end ≡ GoesOn
+  -- its message's octet offset is that of this section 0, which states the total length
+  pub offset : line .span .offset ≡ toldAt told (line .indicator .0) .offset
+  pub total : line .span .total ≡ beAt file (line .span .offset .0 + 8) 8
 
 abbrev pub LinesArePinned : Type 0
 LinesArePinned =
     (room : Room) (file : List ℕ)
-    → Every (PinnedLine (walked room file .sections)) (walked room file .lines)
+    → Every (PinnedLine file (walked room file .sections)) (walked room file .lines)
 
 -- and that leaves no choice: a section 7 has one line
 abbrev pub OneLine : Type 0
 OneLine =
-    (told : List Section) (line other : Line) → PinnedLine told line → PinnedLine told other
-    → line .values .0 ≡ other .values .0 → line ≡ other
+    (file : List ℕ) (told : List Section) (line other : Line) → PinnedLine file told line
+    → PinnedLine file told other → line .values .0 ≡ other .values .0 → line ≡ other
 
 -- the places of the sections of this number, in order, where the first of the list has place p
 abbrev pub placesFrom : ℕ → ℕ → List Section → List ℕ

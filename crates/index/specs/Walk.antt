@@ -3,17 +3,32 @@
 -- room for so many rows and lines.
 use Prim.Native.Nat.{ℕ, _+_}
 use mathlib.Core.List.{List, [], _∷_, _++_}
-use lib.Dec.{ltb, leb}
+use lib.Dec.{eqb, ltb, leb}
 use lib.ListN.{length}
 use Rattle.octets.specs.Words.{pick}
+use Rattle.octets.specs.BigEndian.{beAt}
+use Rattle.sections.specs.Kinds as kinds
 use Rattle.framing.specs.Listing.{Ending, over, unreadable, listing}
+use Rattle.framing.specs.declared.read.Offset.{Offset}
 use Rattle.framing.specs.declared.read.Section.{Section}
 use Rattle.order.specs.Order.{judged, completes, isBetween}
+use Rattle.order.specs.declared.Place.{Place}
 use Rattle.order.specs.declared.Order.{Order}
 use Rattle.order.specs.declared.Order.the-variants.{BetweenMessages, SubmessageStart}
 use Rattle.order.specs.declared.Judged.{Judged}
 use Rattle.order.specs.declared.Judged.the-variants as judged
-use Rattle.index.specs.Lines.{place, unlisted, opened, inForce, withSubmessage, lineOf}
+use Rattle.index.specs.Lines.{
+  place,
+  span,
+  unlisted,
+  opened,
+  withSpan,
+  inForce,
+  withSubmessage,
+  lineOf,
+}
+use Rattle.index.specs.declared.line.MessageEnd.the-variants.{GoesOn, ClosedAt}
+use Rattle.index.specs.declared.line.Span.{Span}
 use Rattle.index.specs.declared.line.Force.{Force}
 use Rattle.index.specs.declared.line.Line.{Line}
 use Rattle.index.specs.declared.refusal.Refusal.{Refusal}
@@ -24,9 +39,10 @@ use Rattle.index.specs.declared.listed.Listed.{Listed}
 use Rattle.index.specs.Bounds.{mostOctets}
 use Rattle.index.specs.declared.bounds.Room.{Room}
 
--- what stands before a section: how many sections and lines are told, the section told last, what
--- was read last, what is in force
+-- what stands before a section: the file that is walked, how many sections and lines are told, the
+-- section told last, what was read last, what is in force
 pub record Reached : Type 0 where
+  pub file : List ℕ
   pub sections : ℕ
   pub lines : ℕ
   pub last : Listed
@@ -34,9 +50,10 @@ pub record Reached : Type 0 where
   pub force : Force
 
 -- before the first section of a file
-abbrev pub atStart : Reached
-atStart =
+abbrev pub atStart : List ℕ → Reached
+atStart file =
     record {
+      file = file;
       sections = 0;
       lines = 0;
       last = unlisted;
@@ -54,17 +71,32 @@ pub data Judgement : Type 0 where
 abbrev pub here : Reached → Section → Listed
 here r s = record { place = place (r .sections); section = s }
 
+-- what a section 0 says of its message: where it stands, and its total length in octets 9 to 16
+unfoldable pub spanAt : List ℕ → Offset → Span
+spanAt file offset = span offset (beAt file (offset .0 + 8) 8)
+
+-- of the message in hand, behind a section: a section 0 says it
+unfoldable pub spanBehind : List ℕ → Span → Section → Span
+spanBehind file before s =
+    pick (eqb (s .number) (kinds.indicator .number)) (spanAt file (s .offset)) before
+
+-- a section comes in force at its place
+abbrev pub comesInForce : List ℕ → Force → Section → Place → Force
+comesInForce file f s here =
+    withSpan (inForce f (s .number) here) (spanBehind file (f .span) s)
+
 -- it fits the order: 13, else it is passed and comes in force
 unfoldable pub fitted : Room → Reached → Section → List Line → Order → Judgement
 fitted room r s lines order =
     pick (leb (room .rows) (r .sections)) (stops lines refusal.SectionTableFull)
     (passes lines 0
     (record {
+      file = r .file;
       sections = r .sections + 1;
       lines = r .lines;
       last = here r s;
       order = order;
-      force = inForce (r .force) (s .number) (place (r .sections));
+      force = comesInForce (r .file) (r .force) s (place (r .sections));
     }))
 
 -- it closes the message: 13, then 14, both lines or neither
@@ -72,8 +104,9 @@ unfoldable pub closing : Room → Reached → Section → Judgement
 closing room r s =
     pick (leb (room .rows) (r .sections)) (stops [] refusal.SectionTableFull)
     (pick (leb (room .lines) (r .lines)) (stops [] refusal.SubmessageTableFull)
-    (passes (lineOf (r .force) (place (r .sections)) ∷ []) 1
+    (passes (lineOf (r .force) (ClosedAt (place (r .sections))) ∷ []) 1
     (record {
+      file = r .file;
       sections = r .sections + 1;
       lines = r .lines + 1;
       last = here r s;
@@ -92,6 +125,7 @@ byOrder judged.NoGrid room r s lines = stops lines (refusal.NoGrid (s .number))
 abbrev pub goneOn : Reached → Reached
 goneOn r =
     record {
+      file = r .file;
       sections = r .sections;
       lines = r .lines + 1;
       last = r .last;
@@ -99,14 +133,14 @@ goneOn r =
       force = withSubmessage (r .force) (r .force .submessage + 1);
     }
 
--- after a good read: after 7 any section but 8 first completes the submessage, with end place 0
+-- after a good read: after 7 any section but 8 first completes the submessage, whose message goes on
 -- (14); then it is judged
 unfoldable pub judgement : Room → Reached → Section → Judgement
 judgement room r s =
     pick (completes (r .order) (s .number))
     (pick (leb (room .lines) (r .lines)) (stops [] refusal.SubmessageTableFull)
     (byOrder (judged SubmessageStart (s .number)) room (goneOn r) s
-    (lineOf (r .force) (place 0) ∷ [])))
+    (lineOf (r .force) GoesOn ∷ [])))
     (byOrder (judged (r .order) (s .number)) room r s [])
 
 -- what a walk tells
@@ -159,4 +193,4 @@ unfoldable pub walked : Room → List ℕ → Told
 walked room file =
     pick (ltb mostOctets (length file))
     (ends (outcome.Refused refusal.FileTooLong (place 0) (record { 0 = 0 })))
-    (walkedFrom room atStart (listing file .sections) (listing file .ending))
+    (walkedFrom room (atStart file) (listing file .sections) (listing file .ending))

@@ -1,7 +1,8 @@
 // A submessage's line, and the sections in force that it is made of (the crate's SubMessageIndex of
 // parser.rs, with names for its fields).
 ghost use mathlib.Core.Path.{_≡_};
-ghost use Rattle.index.specs.Lines.{opened, inForce, withSubmessage, lineOf};
+ghost use Rattle.index.specs.Lines.{opened, inForce, withSpan, withSubmessage, lineOf};
+use framing::Offset;
 use order::Place;
 use sections::BitMap;
 use sections::DataSection;
@@ -22,6 +23,18 @@ pub enum LocalUsePlace {
     Absent,
 }
 
+// Where a message stands: the octet offset of its section 0, and the total length stated there.
+pub struct Span {
+    pub offset: Offset,
+    pub total: u64,
+}
+
+// What stands behind a submessage: more of its message, or the section 8 that closes it.
+pub enum MessageEnd {
+    GoesOn,
+    ClosedAt(Place),
+}
+
 // A line of the submessage table.
 pub struct Line {
     pub message: u64,
@@ -34,15 +47,17 @@ pub struct Line {
     pub representation: Place,
     pub bitmap: Place,
     pub values: Place,
-    // Place 0 where the message goes on: a true section 8 never has place 0.
-    pub end: Place,
+    pub end: MessageEnd,
+    // Its message's.
+    pub span: Span,
 }
 
-// What is in force inside a message: for each section number the place of the last section that had
-// it.
+// What is in force inside a message: what its section 0 stated, and for each section number the
+// place of the last section that had it.
 pub struct Force {
     pub message: u64,
     pub submessage: u64,
+    pub span: Span,
     pub local: LocalUsePlace,
     pub places: [Place; KEPT],
 }
@@ -54,6 +69,10 @@ pub fn opened(message: u64) -> Force
     Force {
         message,
         submessage: 0,
+        span: Span {
+            offset: Offset(0),
+            total: 0,
+        },
         local: LocalUsePlace::Absent,
         places: [Place(0); KEPT],
     }
@@ -64,10 +83,12 @@ pub fn in_force(mut force: Force, number: u64, here: Place) -> Force
     ensures { λ r. ⌜ r ≡ inForce force number here ⌝ }
 {
     if number == LocalUse::NUMBER {
+        let span = force.span;
         let places = force.places;
         return Force {
             message: force.message,
             submessage: force.submessage,
+            span,
             local: LocalUsePlace::At(here),
             places,
         };
@@ -76,6 +97,14 @@ pub fn in_force(mut force: Force, number: u64, here: Place) -> Force
         let i = number as usize;
         force.places[i] = here;
     }
+    force
+}
+
+// The same in force, in a message that stands there.
+pub fn with_span(mut force: Force, span: Span) -> Force
+    ensures { λ r. ⌜ r ≡ withSpan force span ⌝ }
+{
+    force.span = span;
     force
 }
 
@@ -88,9 +117,10 @@ pub fn with_submessage(mut force: Force, submessage: u64) -> Force
 }
 
 // The line of the submessage in hand.
-pub fn line_of(force: Force, end: Place) -> Line
+pub fn line_of(force: Force, end: MessageEnd) -> Line
     ensures { λ r. ⌜ r ≡ lineOf force end ⌝ }
 {
+    let span = force.span;
     let local = force.local;
     let places = force.places;
     Line {
@@ -105,5 +135,6 @@ pub fn line_of(force: Force, end: Place) -> Line
         bitmap: places[BitMap::NUMBER as usize],
         values: places[DataSection::NUMBER as usize],
         end,
+        span,
     }
 }

@@ -12,18 +12,19 @@ use Rattle.sections.specs.declared.indicator.Indicator.{Indicator}
 use Rattle.sections.specs.declared.indicator.MaybeIndicator.the-variants.{Fields}
 use Rattle.products.specs.Products.{categoryOf, parameterOf, forecastOf, fixedOf, productOf}
 use Rattle.framing.specs.LaidOut.{LaidOut, nothingMore, indicatorNext, endNext, headedNext}
+use Rattle.framing.specs.declared.read.Offset.{Offset}
 use Rattle.framing.specs.declared.read.Section.{Section}
 use Rattle.index.specs.Lines.{unlisted}
 use Rattle.index.specs.Bounds.{unlimited}
 use Rattle.index.specs.Walk.{walked}
 use Rattle.index.specs.Decoded.{ownOctets, payloadOf, decoded}
-use Rattle.index.specs.Pins.{Every, ToldAt, PinnedLine}
+use Rattle.index.specs.Pins.{Every, toldAt, ToldAt, PinnedLine}
 use Rattle.index.specs.declared.line.Line.{Line}
 use Rattle.index.proofs.Rows.{rows-are-laid-out}
 use Rattle.index.proofs.Pins.{lines-are-pinned}
 use Rattle.entries.specs.declared.Entry.{Entry}
 use Rattle.inventory.specs.Inventory.{firstSurface, forEach, indicatorIn, entryWith, entryAt, entriesOf}
-use Rattle.inventory.specs.Laws.{toldAt, behindHeader, PinnedEntry, EachTwo, EachLineHasItsEntry}
+use Rattle.inventory.specs.Laws.{behindHeader, PinnedEntry, EachTwo, EachLineHasItsEntry}
 use Rattle.inventory.proofs.Remembered.{StandsThere, entry-at}
 
 -- a part behind a part
@@ -72,10 +73,10 @@ stands-told told number p (inside, is) =
 -- one entry for a line
 record HasEntry (file : List ℕ) (told : List Section) (line : Line) : Type 0 where
   entry : Entry
-  alone : entryAt told (decoded file told) line ≡ entry ∷ []
+  alone : entryAt (decoded file told) line ≡ entry ∷ []
   pinned : PinnedEntry file told line entry
 
-has-entry : (file : List ℕ) (told : List Section) → LaidOut file 0 0 told → (line : Line) → PinnedLine told line → HasEntry file told line
+has-entry : (file : List ℕ) (told : List Section) → LaidOut file 0 0 told → (line : Line) → PinnedLine file told line → HasEntry file told line
 unfolding indicatorIn productOf
 has-entry file told laid line pins =
     let zeroth = pins .indicator .there in
@@ -85,7 +86,7 @@ has-entry file told laid line pins =
     let product = productOf (payloadOf file p) in
     let same = payload-behind file p in
     record {
-      entry = entryWith line z (saidBy file z) product;
+      entry = entryWith line (saidBy file z) product;
       alone =
           entry-at file told line (stands-told told 0 (line .indicator .0) zeroth) (stands-told told 4 (line .product .0) fourth)
           ∙ rw (indicator-says file z (whole-indicator file laid (line .indicator .0) zeroth));
@@ -96,7 +97,8 @@ has-entry file told laid line pins =
             message = refl;
             submessage = refl;
             offset = refl;
-            discipline = refl;
+            there = pins .offset;
+            discipline = ap (λ (o : Offset). getD file (o .0 + 6) 0) (sym (pins .offset));
             category = ap categoryOf same;
             number = ap parameterOf same;
             time = ap forecastOf same;
@@ -105,8 +107,8 @@ has-entry file told laid line pins =
     }
 
 -- for each line
-each-two : (file : List ℕ) (told : List Section) (lines : List Line) → ((line : Line) → PinnedLine told line → HasEntry file told line)
-    → Every (PinnedLine told) lines → EachTwo (PinnedEntry file told) lines (forEach lines (entryAt told (decoded file told)))
+each-two : (file : List ℕ) (told : List Section) (lines : List Line) → ((line : Line) → PinnedLine file told line → HasEntry file told line)
+    → Every (PinnedLine file told) lines → EachTwo (PinnedEntry file told) lines (forEach lines (entryAt (decoded file told)))
 each-two file told [] has pins = tt
 each-two file told (line ∷ lines) has (pin, pins) =
     let one = has line pin in rw (one .alone) (one .pinned, each-two file told lines has pins)

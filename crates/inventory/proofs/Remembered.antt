@@ -8,7 +8,7 @@ use mathlib.Core.List.{List, [], _∷_}
 use lib.Dec.{ltb, eqb}
 use lib.ListN.{length, take, drop, length-set}
 use lib.Seq.{getD-set-same, getD-set-other}
-use borrow.Author.Tests.{eqb-true, eqb-false, ne-eqb, ltb-false}
+use borrow.Author.Tests.{eqb-true, eqb-false, eq-eqb, ne-eqb, ltb-false}
 use Rattle.octets.specs.Words.{Not}
 use Rattle.sections.specs.Indicator.{indicatorOf}
 use Rattle.sections.specs.declared.indicator.MaybeIndicator.{MaybeIndicator}
@@ -22,6 +22,8 @@ use Rattle.order.specs.declared.Place.{Place}
 use Rattle.order.specs.declared.Order.{Order}
 use Rattle.order.specs.declared.Order.the-variants.{BetweenMessages, AfterData, SubmessageStart}
 use Rattle.index.specs.Lines.{place, opened, inForce, withSubmessage, lineOf}
+use Rattle.index.specs.Walk.{spanAt, spanBehind, comesInForce}
+use Rattle.index.specs.declared.line.MessageEnd.{MessageEnd}
 use Rattle.index.specs.Decoded.{SectionFields, ofIndicator, ofProduct, ownOctets, payloadOf, productSectionOf, fieldsOf, decoded}
 use Rattle.index.specs.declared.line.Force.{Force}
 use Rattle.index.specs.declared.line.Line.{Line}
@@ -98,12 +100,13 @@ module _ (told : List Section) where
     pub message : f .message ≡ m .message
     pub submessage : f .submessage ≡ m .submessage
     pub zeroth : isBetween order ≡ false → StandsThere 0 (kept f 0) (m .zeroth)
+    pub offset : isBetween order ≡ false → f .span .offset ≡ m .zeroth .offset
     pub fourth : 4 < level order → StandsThere 4 (kept f 4) (m .fourth)
 
   -- a section that fits is remembered
-  module _ (f : Force) (m : Memory) (s : Section) (c : ℕ) (here : standsAt c told ≡ s ∷ []) where
+  module _ (file : List ℕ) (f : Force) (m : Memory) (s : Section) (c : ℕ) (here : standsAt c told ≡ s ∷ []) where
     abbrev f′ : Force
-    f′ = inForce f (s .number) (place c)
+    f′ = comesInForce file f s (place c)
 
     abbrev m′ : Memory
     m′ = withSection m s
@@ -115,6 +118,13 @@ module _ (told : List Section) where
     zeroth-comes k (within was ajar low high none seven lower) =
         subst₂ (StandsThere 0) (sym (kept-other f (s .number) c 0 (λ z. omega arith))) (sym (zeroth-other m s (λ z. omega arith)))
         (k .zeroth was)
+
+    offset-comes : {order next : Order} → Remembered order f m → Fitting (s .number) order next → f′ .span .offset ≡ m′ .zeroth .offset
+    unfolding spanBehind spanAt
+    offset-comes k (opening e) = rw (eq-eqb (s .number) 0 e) (ap (λ (z : Section). z .offset) (sym (zeroth-new m s e)))
+    offset-comes k (within was ajar low high none seven lower) =
+        let other : Not (s .number ≡ 0) = λ z. omega arith in
+        rw (ne-eqb (s .number) 0 other) (k .offset was ∙ ap (λ (z : Section). z .offset) (sym (zeroth-other m s other)))
 
     fourth-comes : {order next : Order} → Remembered order f m → Fitting (s .number) order next → 4 < level next
         → StandsThere 4 (kept f′ 4) (m′ .fourth)
@@ -141,6 +151,7 @@ module _ (told : List Section) where
           message = message ∙ k .message ∙ sym message′;
           submessage = submessage ∙ k .submessage ∙ sym submessage′;
           zeroth = λ ajar. zeroth-comes k fits;
+          offset = λ ajar. offset-comes k fits;
           fourth = fourth-comes k fits;
         }
 
@@ -154,6 +165,7 @@ module _ (told : List Section) where
         message = k .message;
         submessage = ap (λ (n : ℕ). n + 1) (k .submessage);
         zeroth = λ ajar. k .zeroth refl;
+        offset = λ ajar. k .offset refl;
         fourth = λ late. k .fourth (omega arith);
       }
 
@@ -167,6 +179,7 @@ module _ (told : List Section) where
         message = ap (λ (n : ℕ). n + 1) (k .message);
         submessage = refl;
         zeroth = λ ajar. absurd (never-both refl ajar);
+        offset = λ ajar. absurd (never-both refl ajar);
         fourth = λ late. absurd (omega arith);
       }
 
@@ -196,42 +209,39 @@ fields-4 file s e = rw e
 
 -- the entry of the line of what is in force
 module _ (file : List ℕ) (told : List Section) where
-  from-one : (line : Line) (z : Section) (indicator : MaybeIndicator) (product : Product)
-      → forEach (z ∷ []) (λ zeroth.
-      forEach (forEach (ofIndicator indicator ∷ []) indicatorIn) λ i.
+  from-one : (line : Line) (indicator : MaybeIndicator) (product : Product)
+      → (forEach (forEach (ofIndicator indicator ∷ []) indicatorIn) λ i.
       forEach (product ∷ []) λ p.
-      entryWith line zeroth i p ∷ [])
-      ≡ forEach (indicatorIn (ofIndicator indicator)) λ i. entryWith line z i product ∷ []
+      entryWith line i p ∷ [])
+      ≡ forEach (indicatorIn (ofIndicator indicator)) λ i. entryWith line i product ∷ []
   unfolding indicatorIn
-  from-one line z (Fields i) product = refl
-  from-one line z NoIndicator product = refl
+  from-one line (Fields i) product = refl
+  from-one line NoIndicator product = refl
 
   -- where these stand at its places
-  from-lists : (line : Line) (z p : Section) (sections : List Section) (zeroths fourths : List SectionFields) → sections ≡ z ∷ []
-      → zeroths ≡ ofIndicator (indicatorOf (ownOctets file z)) ∷ [] → fourths ≡ ofProduct (productSectionOf (payloadOf file p)) ∷ []
-      → forEach sections (λ zeroth.
-      forEach (forEach zeroths indicatorIn) λ i.
+  from-lists : (line : Line) (z p : Section) (zeroths fourths : List SectionFields) → zeroths ≡ ofIndicator (indicatorOf (ownOctets file z)) ∷ [] → fourths ≡ ofProduct (productSectionOf (payloadOf file p)) ∷ []
+      → (forEach (forEach zeroths indicatorIn) λ i.
       forEach (forEach fourths productIn) λ product.
-      entryWith line zeroth i product ∷ [])
-      ≡ forEach (indicatorIn (ofIndicator (indicatorOf (ownOctets file z)))) λ i. entryWith line z i (productOf (payloadOf file p)) ∷ []
+      entryWith line i product ∷ [])
+      ≡ forEach (indicatorIn (ofIndicator (indicatorOf (ownOctets file z)))) λ i. entryWith line i (productOf (payloadOf file p)) ∷ []
   unfolding productIn productSectionOf
-  from-lists line z p sections zeroths fourths e f g =
-      rw (e, f, g) (from-one line z (indicatorOf (ownOctets file z)) (productOf (payloadOf file p)))
+  from-lists line z p zeroths fourths f g =
+      rw (f, g) (from-one line (indicatorOf (ownOctets file z)) (productOf (payloadOf file p)))
 
   pub entry-at : (line : Line) {z p : Section} → StandsThere told 0 (line .indicator .0) z → StandsThere told 4 (line .product .0) p
-      → entryAt told (decoded file told) line
-      ≡ forEach (indicatorIn (ofIndicator (indicatorOf (ownOctets file z)))) λ i. entryWith line z i (productOf (payloadOf file p)) ∷ []
+      → entryAt (decoded file told) line
+      ≡ forEach (indicatorIn (ofIndicator (indicatorOf (ownOctets file z)))) λ i. entryWith line i (productOf (payloadOf file p)) ∷ []
   unfolding entryAt
   entry-at line {z} {p} zeroth fourth =
       let here = line .indicator .0 in
       let there = line .product .0 in
-      from-lists line z p (standsAt here told) (standsAt here (decoded file told)) (standsAt there (decoded file told)) (zeroth .there)
+      from-lists line z p (standsAt here (decoded file told)) (standsAt there (decoded file told))
       (stands-decoded file told here (zeroth .there) ∙ ap (λ (x : SectionFields). x ∷ []) (fields-0 file z (zeroth .number-is)))
       (stands-decoded file told there (fourth .there) ∙ ap (λ (x : SectionFields). x ∷ []) (fields-4 file p (fourth .number-is)))
 
   -- is that of what is remembered
-  pub remembered-entry : {f : Force} {m : Memory} (end : Place) → Remembered told AfterData f m
-      → entryAt told (decoded file told) (lineOf f end) ≡ entriesIn file m
+  pub remembered-entry : {f : Force} {m : Memory} (end : MessageEnd) → Remembered told AfterData f m
+      → entryAt (decoded file told) (lineOf f end) ≡ entriesIn file m
   unfolding lineOf entriesIn isBetween
   remembered-entry {f} {m} end k =
-      entry-at (lineOf f end) (k .zeroth refl) (k .fourth (omega arith)) ∙ rw (k .message, k .submessage)
+      entry-at (lineOf f end) (k .zeroth refl) (k .fourth (omega arith)) ∙ rw (k .message, k .submessage, k .offset refl)

@@ -17,7 +17,7 @@ use Rattle.framing.proofs.OneRead.{Reads, reads, goes}
 use Rattle.framing.proofs.Tests.{by-test}
 use Rattle.index.specs.Bounds.{mostOctets, unlimited}
 use Rattle.index.specs.Walk.{Reached, atStart, Judgement, stops, passes, judgement, Told, followed, walkedFrom, walked}
-use Rattle.index.specs.Pins.{Every, countOf, PinnedLine}
+use Rattle.index.specs.Pins.{Every, toldAt, countOf, PinnedLine}
 use Rattle.index.specs.declared.bounds.Room.{Room}
 use Rattle.index.specs.declared.line.Line.{Line}
 use Rattle.index.proofs.Rows.{rows-are-laid-out}
@@ -26,7 +26,7 @@ use Rattle.entries.specs.Form.{InOctet, OctetInBounds, TimeInBounds, InBounds}
 use Rattle.entries.specs.declared.Entry.{Entry}
 use Rattle.entries.proofs.Laws.{written-says-its-list}
 use Rattle.inventory.specs.Inventory.{firstSurface, entriesOf}
-use Rattle.inventory.specs.Laws.{toldAt, behindHeader, PinnedEntry, EachTwo, InventorySaysItsEntries}
+use Rattle.inventory.specs.Laws.{behindHeader, PinnedEntry, EachTwo, InventorySaysItsEntries}
 use Rattle.inventory.proofs.EachEntry.{whole-indicator, each-line-has-its-entry}
 
 -- no more sections are told than the file has octets
@@ -57,7 +57,7 @@ few-told : (file : List ℕ) → length (walked unlimited file .sections) ≤ le
 unfolding walked listing
 few-told file =
     by-test (λ (t : Told). length (t .sections) ≤ length file) (ltb mostOctets (length file)) (λ long. omega arith)
-    (λ short. omega (arith, few-walked unlimited atStart (listing file .sections) (listing file .ending), few-listed (length file + 1) file 0 0))
+    (λ short. omega (arith, few-walked unlimited (atStart file) (listing file .sections) (listing file .ending), few-listed (length file + 1) file 0 0))
 
 count-few : (n : ℕ) (l : List Section) → countOf n l ≤ length l
 count-few n [] = omega arith
@@ -85,7 +85,7 @@ module _ (file : List ℕ) (every : Every InOctet file) (fits : length file ≤ 
   abbrev told : List Section
   told = walked unlimited file .sections
 
-  entry-in-bounds : (line : Line) (e : Entry) → PinnedLine told line → PinnedEntry file told line e → InBounds e
+  entry-in-bounds : (line : Line) (e : Entry) → PinnedLine file told line → PinnedEntry file told line e → InBounds e
   unfolding firstSurface
   entry-in-bounds line e pins pinned =
       let few = few-told file in
@@ -101,7 +101,7 @@ module _ (file : List ℕ) (every : Every InOctet file) (fits : length file ≤ 
       record {
         message = omega (arith, pinned .message, pins .message, count-few 0 before);
         submessage = omega (arith, pinned .submessage, pins .submessage, count-few 7 within);
-        offset = rw (pinned .offset) (omega arith);
+        offset = rw (pinned .there) (omega arith);
         discipline = rw (pinned .discipline) (octets-of file every (e .offset .0 + 6));
         category = rw (pinned .category) (category-within OctetInBounds tt (λ n low. low) s octets);
         number = rw (pinned .number) (parameter-within OctetInBounds tt (λ n low. low) s octets);
@@ -109,7 +109,7 @@ module _ (file : List ℕ) (every : Every InOctet file) (fits : length file ≤ 
         surface = rw (pinned .surface) (fixed-within (λ x. OctetInBounds (firstSurface x)) tt (λ a b low. low) s octets);
       }
 
-  each-in-bounds : (lines : List Line) (entries : List Entry) → Every (PinnedLine told) lines → EachTwo (PinnedEntry file told) lines entries
+  each-in-bounds : (lines : List Line) (entries : List Entry) → Every (PinnedLine file told) lines → EachTwo (PinnedEntry file told) lines entries
       → Every InBounds entries
   each-in-bounds [] [] pins pinned = tt
   each-in-bounds (line ∷ lines) (e ∷ entries) (pin, pins) (one, more) =

@@ -21,9 +21,10 @@ use Rattle.order.specs.declared.Order.the-variants.{BetweenMessages, AfterData,
 use Rattle.order.specs.declared.Judged.{Judged}
 use Rattle.order.specs.declared.Judged.the-variants as says
 use Rattle.order.proofs.Laws.{closes-only, completes-only, starts-next}
-use Rattle.index.specs.Lines.{place, opened, inForce, lineOf}
+use Rattle.index.specs.Lines.{place, unlisted, opened, lineOf}
+use Rattle.index.specs.declared.line.MessageEnd.the-variants.{GoesOn, ClosedAt}
 use Rattle.index.specs.Bounds.{mostOctets, unlimited}
-use Rattle.index.specs.Walk.{Reached, atStart, goneOn, Told, walked}
+use Rattle.index.specs.Walk.{Reached, atStart, comesInForce, goneOn, Told, walked}
 use Rattle.index.specs.Decoded.{decoded}
 use Rattle.index.specs.declared.line.Force.{Force}
 use Rattle.index.specs.declared.line.Line.{Line as SubmessageLine}
@@ -55,11 +56,11 @@ use Rattle.inventory.proofs.Remembered.{memory-numbers, Remembered, com
 
 -- what is in force behind a section, and the lines told because of it, by what was due
 pub data DueOf (r : Reached) (s : Section) (next : Order) : Due → Force → List SubmessageLine → Type 0 where
-  none : Fitting (s .number) (r .order) next → DueOf r s next NoLine (inForce (r .force) (s .number) (place (r .sections))) []
+  none : Fitting (s .number) (r .order) next → DueOf r s next NoLine (comesInForce (r .file) (r .force) s (place (r .sections))) []
   one : r .order ≡ AfterData → Fitting (s .number) SubmessageStart next
-      → DueOf r s next Line (inForce (goneOn r .force) (s .number) (place (r .sections))) (lineOf (r .force) (place 0) ∷ [])
+      → DueOf r s next Line (comesInForce (r .file) (goneOn r .force) s (place (r .sections))) (lineOf (r .force) GoesOn ∷ [])
   last : r .order ≡ AfterData → next ≡ BetweenMessages
-      → DueOf r s next LastLine (opened (r .force .message + 1)) (lineOf (r .force) (place (r .sections)) ∷ [])
+      → DueOf r s next LastLine (opened (r .force .message + 1)) (lineOf (r .force) (ClosedAt (place (r .sections))) ∷ [])
 
 -- a section that fits does not close its message
 fits-or-closes : {j : Judged} {next : Order} → j ≡ says.Fits next → j ≡ says.Closes → ⊥
@@ -96,7 +97,7 @@ module _ (file : List ℕ) where
   told = walked unlimited file .sections
 
   abbrev entriesFor : List SubmessageLine → List Entry
-  entriesFor lines = forEach lines (entryAt told (decoded file told))
+  entriesFor lines = forEach lines (entryAt (decoded file told))
 
   -- what is due is the entries of the lines told
   due-entries : {r : Reached} {s : Section} {next : Order} {due : Due} {f : Force} {lines : List SubmessageLine} {m : Memory}
@@ -104,18 +105,18 @@ module _ (file : List ℕ) where
   unfolding dueEntries
   due-entries (none fits) k = refl
   due-entries {r} {m = m} (one order fits) k =
-      append-nil _ ∙ remembered-entry file told (place 0) (subst (λ (o : Order). Remembered told o (r .force) m) order k)
+      append-nil _ ∙ remembered-entry file told GoesOn (subst (λ (o : Order). Remembered told o (r .force) m) order k)
   due-entries {r} {m = m} (last order between) k =
-      append-nil _ ∙ remembered-entry file told (place (r .sections)) (subst (λ (o : Order). Remembered told o (r .force) m) order k)
+      append-nil _ ∙ remembered-entry file told (ClosedAt (place (r .sections))) (subst (λ (o : Order). Remembered told o (r .force) m) order k)
 
   -- and the section is remembered
   due-remembered : {r : Reached} {s : Section} {next : Order} {due : Due} {f : Force} {lines : List SubmessageLine} {m : Memory}
       → DueOf r s next due f lines → Remembered told (r .order) (r .force) m → standsAt (r .sections) told ≡ s ∷ []
       → Remembered told next f (remembered due m s)
   unfolding remembered
-  due-remembered {r} {s} {m = m} (none fits) k here = comes told (r .force) m s (r .sections) here k fits
+  due-remembered {r} {s} {m = m} (none fits) k here = comes told (r .file) (r .force) m s (r .sections) here k fits
   due-remembered {r} {s} {m = m} (one order fits) k here =
-      comes told (goneOn r .force) _ s (r .sections) here (goes-on told (subst (λ (o : Order). Remembered told o (r .force) m) order k)) fits
+      comes told (r .file) (goneOn r .force) _ s (r .sections) here (goes-on told (subst (λ (o : Order). Remembered told o (r .force) m) order k)) fits
   due-remembered {r} {s} {next} {m = m} (last order between) k here =
       subst (λ (o : Order). Remembered told o (opened (r .force .message + 1)) (remembered LastLine m s)) (sym between) (closes told k)
 
@@ -217,18 +218,18 @@ By file r at count before (seen.Unreadable fault offset) =
     Over (toldOn file r (at .cursor)) (stoppedBy (seen.Unreadable fault offset) count before)
 
 module _ (file text₀ : List ℕ) (fits : length file ≤ mostOctets) where
-  pub first : Listing file text₀ start 0 (atStart .last) blank 0 text₀
+  pub first : Listing file text₀ start 0 unlisted blank 0 text₀
   unfolding putInText isBetween entriesOf
   first =
       record {
-        r = atStart;
+        r = atStart file;
         order = refl;
         bounded = first-bounded file;
         outcome = ap (λ (t : Told). t .outcome) (sym (first-told file fits));
         counted = refl;
         passed = refl;
         rest = ap (λ (t : Told). t .sections) (first-told file fits);
-        memory = record { room = refl; message = refl; submessage = refl; zeroth = λ ajar. absurd (never-both refl ajar); fourth = λ late. absurd (omega arith) };
+        memory = record { room = refl; message = refl; submessage = refl; zeroth = λ ajar. absurd (never-both refl ajar); offset = λ ajar. absurd (never-both refl ajar); fourth = λ late. absurd (omega arith) };
         few = (omega arith, omega arith);
         done = [];
         whole = ap (λ (t : Told). textOf (entriesFor file (t .lines))) (first-told file fits);
@@ -303,7 +304,7 @@ module _ (file text₀ : List ℕ) (fits : length file ≤ mostOctets) where
       text-due =
           let later = toldOn file (t .step .q) (next .cursor) .lines in
           ap (λ (l : List SubmessageLine). textOf (entriesFor file l)) (t .step .lines-told)
-          ∙ ap textOf (entries-append (t .step .lines) later (entryAt (told file) (decoded file (told file))))
+          ∙ ap textOf (entries-append (t .step .lines) later (entryAt (decoded file (told file))))
           ∙ text-append (entriesFor file (t .step .lines)) (entriesFor file later)
           ∙ ap (λ (l : List Entry). textOf l ++ textOf (entriesFor file later)) (due-entries file (t .due-of) (k .memory))
 

@@ -12,7 +12,6 @@ use Rattle.products.specs.declared.MaybeOctet.{MaybeOctet}
 use Rattle.products.specs.declared.MaybeOctet.the-variants.{Octet, NoOctet}
 use Rattle.products.specs.declared.MaybeSurfaces.{MaybeSurfaces}
 use Rattle.products.specs.declared.MaybeSurfaces.the-variants.{Both, NoSurfaces}
-use Rattle.framing.specs.declared.read.Section.{Section}
 use Rattle.index.specs.Bounds.{unlimited}
 use Rattle.index.specs.Walk.{walked}
 use Rattle.products.specs.declared.Product.{Product}
@@ -73,13 +72,13 @@ productIn (ofRepresentation fields) = []
 productIn (ofBitMap fields) = []
 productIn ofNone = []
 
--- an entry: a submessage's numbers, its message's section 0, the product of its section 4
-abbrev pub entryWith : Line → Section → Indicator → Product → Entry
-entryWith line zeroth indicator product =
+-- an entry: a submessage's numbers, its message's offset and section 0, the product of its section 4
+abbrev pub entryWith : Line → Indicator → Product → Entry
+entryWith line indicator product =
     record {
       message = line .message;
       submessage = line .submessage;
-      offset = zeroth .offset;
+      offset = line .span .offset;
       discipline = indicator .discipline;
       category = product .category;
       number = product .number;
@@ -89,18 +88,17 @@ entryWith line zeroth indicator product =
 
 -- the entry of a line: its sections 0 and 4 stand at its places. No walk has others there, so that
 -- there is one entry for each line (`EachLineHasItsEntry`)
-unfoldable pub entryAt : List Section → List SectionFields → Line → List Entry
-entryAt sections fields line =
-    forEach (standsAt (line .indicator .0) sections) λ zeroth.
+unfoldable pub entryAt : List SectionFields → Line → List Entry
+entryAt fields line =
     forEach (forEach (standsAt (line .indicator .0) fields) indicatorIn) λ indicator.
     forEach (forEach (standsAt (line .product .0) fields) productIn) λ product.
-    entryWith line zeroth indicator product ∷ []
+    entryWith line indicator product ∷ []
 
 -- one line for each submessage of the walk, which needs no table
 unfoldable pub entriesOf : List ℕ → List Entry
 entriesOf file =
     let told = walked unlimited file in
-    forEach (told .lines) (entryAt (told .sections) (decoded file (told .sections)))
+    forEach (told .lines) (entryAt (decoded file (told .sections)))
 
 -- an answer, and the whole buffer
 pub record TextWritten : Type 0 where

@@ -6,33 +6,29 @@ use mathlib.Core.List.{List, [], _∷_}
 use lib.ListN.{getD, take, drop}
 use Rattle.products.specs.Products.{categoryOf, parameterOf, forecastOf, fixedOf}
 use Rattle.framing.specs.declared.read.Section.{Section}
-use Rattle.index.specs.Lines.{unlisted}
 use Rattle.index.specs.Bounds.{unlimited}
 use Rattle.index.specs.Walk.{walked}
-use Rattle.index.specs.Pins.{Every, ToldAt}
+use Rattle.index.specs.Pins.{Every, toldAt, ToldAt}
 use Rattle.index.specs.declared.line.Line.{Line}
 use Rattle.entries.specs.Entries.{textOf}
 use Rattle.entries.specs.Form.{InBounds, Reads}
 use Rattle.entries.specs.declared.Entry.{Entry}
 use Rattle.inventory.specs.Inventory.{firstSurface, entriesOf}
 
--- the section told at a place
-abbrev pub toldAt : List Section → ℕ → Section
-toldAt told place = getD told place (unlisted .section)
-
 -- the octets behind a section's header
 abbrev pub behindHeader : List ℕ → Section → List ℕ
 behindHeader file s = take (s .length - 5) (drop (s .offset .0 + 5) file)
 
--- an entry of a line: its numbers are the line's; a section 0 stands at its place, and says offset
--- and, by its octet 7, discipline; a section 4 stands at its place, and its payload says the rest
+-- an entry of a line: its numbers and its offset are the line's; a section 0 stands at its place
+-- there, and says the discipline by its octet 7; a section 4 stands at its place, and its payload says the rest
 pub record PinnedEntry (file : List ℕ) (told : List Section) (line : Line) (e : Entry)
     : Type 0 where
   pub zeroth : ToldAt told 0 (line .indicator .0)
   pub fourth : ToldAt told 4 (line .product .0)
   pub message : e .message ≡ line .message
   pub submessage : e .submessage ≡ line .submessage
-  pub offset : e .offset ≡ toldAt told (line .indicator .0) .offset
+  pub offset : e .offset ≡ line .span .offset
+  pub there : e .offset ≡ toldAt told (line .indicator .0) .offset
   pub discipline : e .discipline ≡ getD file (e .offset .0 + 6) 0
   pub category : e .category ≡ categoryOf (behindHeader file (toldAt told (line .product .0)))
   pub number : e .number ≡ parameterOf (behindHeader file (toldAt told (line .product .0)))

@@ -37,6 +37,8 @@ use Rattle.framing.proofs.read.Section as Section
 use Rattle.order.proofs.Order as Order
 use Rattle.order.proofs.Place as Place
 use Rattle.index.proofs.line.Force as Force
+use Rattle.index.proofs.line.MessageEnd as MessageEnd
+use Rattle.index.proofs.line.Span as Span
 use Rattle.index.proofs.line.Line as Line
 use Rattle.index.proofs.refusal.Outcome as Outcome
 use Rattle.reading.proofs.Reading as Reading
@@ -70,6 +72,12 @@ plain-Order = record { pure = λ d. Order.Laws.the-field-plain (Order.the-type .
 
 plain-Place : Plain Place.the-row
 plain-Place = record { pure = λ d. Place.Laws.the-field-plain (Place.the-type .to d) }
+
+plain-MessageEnd : Plain MessageEnd.the-row
+plain-MessageEnd = record { pure = λ d. MessageEnd.Laws.the-field-plain (MessageEnd.the-type .to d) }
+
+plain-Span : Plain Span.the-row
+plain-Span = record { pure = λ d. Span.Laws.the-field-plain (Span.the-type .to d) }
 
 plain-Force : Plain Force.the-row
 plain-Force = record { pure = λ d. Force.Laws.the-field-plain (Force.the-type .to d) }
@@ -144,8 +152,9 @@ module _ {M : Type 1} where
     order-judge-all = by 1 (to-read 0 tt (number w64) ∷ []) (λ n. refl) (λ 𝓤 H A content run κs a. tt) order.judge_all.Met.met (λ n r e. id⊢ (n .memory) _);
     index-opened = by 0 (by-value (plain-number w64) ∷ []) (λ n. refl) (λ 𝓤 H A content run κs a. tt) index.opened.Met.met (λ n r e. id⊢ (n .memory) _);
     index-in-force = by 0 (by-value plain-Force ∷ by-value (plain-number w64) ∷ by-value plain-Place ∷ []) (λ n. refl) (λ 𝓤 H A content run κs a. tt) index.in_force.Met.met (λ n r e. id⊢ (n .memory) _);
+    index-with-span = by 0 (by-value plain-Force ∷ by-value plain-Span ∷ []) (λ n. refl) (λ 𝓤 H A content run κs a. tt) index.with_span.Met.met (λ n r e. id⊢ (n .memory) _);
     index-with-submessage = by 0 (by-value plain-Force ∷ by-value (plain-number w64) ∷ []) (λ n. refl) (λ 𝓤 H A content run κs a. tt) index.with_submessage.Met.met (λ n r e. id⊢ (n .memory) _);
-    index-line-of = by 0 (by-value plain-Force ∷ by-value plain-Place ∷ []) (λ n. refl) (λ 𝓤 H A content run κs a. tt) index.line_of.Met.met (λ n r e. id⊢ (n .memory) _);
+    index-line-of = by 0 (by-value plain-Force ∷ by-value plain-MessageEnd ∷ []) (λ n. refl) (λ 𝓤 H A content run κs a. tt) index.line_of.Met.met (λ n r e. id⊢ (n .memory) _);
     index-unlisted = by 0 [] (λ n. refl) (λ 𝓤 H A content run κs a. tt) index.unlisted.Met.met (λ n r e. id⊢ (n .memory) _);
     index-end-of = by 0 (by-value plain-Outcome ∷ []) (λ n. refl) (λ 𝓤 H A content run κs a. tt) index.end_of.Met.met (λ n r e. id⊢ (n .memory) _);
     index-stored = by 0 (by-value (plain-number w64) ∷ []) (λ n. refl) (λ 𝓤 H A content run κs a. tt) index.stored.Met.met (λ n r e. id⊢ (n .memory) _);
@@ -154,6 +163,7 @@ module _ {M : Type 1} where
     reading-look = by 1 (to-read 0 tt (number w8) ∷ by-value plain-Reading ∷ []) (λ n. refl) (λ 𝓤 H A content run κs a. tt) reading.look.Met.met (λ n r e. id⊢ (n .memory) _);
     reading-glance = by 1 (to-read 0 tt (number w8) ∷ by-value plain-Reading ∷ []) (λ n. refl) (λ 𝓤 H A content run κs a. tt) reading.glance.Met.met (λ n r e. id⊢ (n .memory) _);
     standing-one-more = by 0 (by-value (plain-number w64) ∷ []) (λ n. refl) (λ 𝓤 H A content run κs a. tt) standing.one_more.Met.met (λ n r e. id⊢ (n .memory) _);
+    standing-span-after = by 0 (by-value plain-Span ∷ by-value plain-Section ∷ by-value plain-Cursor ∷ []) (λ n. refl) (λ 𝓤 H A content run κs a. tt) standing.span_after.Met.met (λ n r e. id⊢ (n .memory) _);
     standing-passed-row = by 0 (by-value plain-Standing ∷ by-value plain-Section ∷ by-value plain-Reading ∷ []) (λ n. refl) (λ 𝓤 H A content run κs a. tt) standing.passed_row.Met.met (λ n r e. id⊢ (n .memory) _);
     standing-put-row = by 1 (to-write 0 tt (number w64) ∷ by-value (plain-number w64) ∷ by-value plain-Section ∷ []) (λ n. refl) (λ 𝓤 H A content run κs a. tt) standing.put_row.Met.met (λ n r e. fact-mono (n .memory) _ _ (λ same. ap (λ (rows : List ℕ). (r, rows)) same));
     walk-walk = by 3 (to-read 0 tt (number w8) ∷ to-write 1 tt (number w64) ∷ to-write 2 tt line ∷ []) (λ n. refl) (λ 𝓤 H A content run κs a. tt) walk.walk.Met.met (λ n r e. three (n .memory) (λ answer rows lines. ((answer, rows), lines)));

@@ -37,7 +37,7 @@ public f e = public-copies licensed (terms-pass .licensed-pass) f (is-clean (wal
 
 pub equal-numbers : (f g : List ℕ) → Alike licensed f g → (rows lines : List ℕ) → walkNumbers f rows lines ≡ walkNumbers g rows lines
 unfolding walkNumbers
-equal-numbers f g d rows lines = rw (one f g d .one-walk (roomOf (length rows) (length lines / 12))) refl
+equal-numbers f g d rows lines = rw (one f g d .one-walk (roomOf (length rows) (length lines / 15))) refl
 
 pub equal-pulls : (f g : List ℕ) → Alike licensed f g → (call : ℕ)
     → pullAt f (afterCalls call f) .answer ≡ pullAt g (afterCalls call g) .answer

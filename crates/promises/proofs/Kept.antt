@@ -10,11 +10,12 @@ use Rattle.walk_laws.proofs.WholeWalk.{is-clean, walk-refused-exactly-when, wal
 use Rattle.walk_laws.proofs.OneStep.{one-step-exactly-when}
 use Rattle.walk_laws.proofs.Missing.{how-much-is-missing}
 use Rattle.walk_laws.proofs.Starts.{where-messages-start}
+use Rattle.walk_laws.proofs.Spans.{where-messages-stand}
 use Rattle.walk_laws.proofs.Messages.{closed-messages-are-tiled, each-end-closes-a-message, messages-are-ends, no-end-at-place-0}
 use Rattle.walk_laws.proofs.Counts.{unlimited-is-never-full}
 use Rattle.walk_laws.proofs.Unlimited.{begins-the-unlimited, held-is-unlimited}
 use Rattle.walk_laws.proofs.Places.{place-is-count, input-over-at-last}
-use Rattle.as_the_crate.proofs.Equal.{walk-equals-the-rust, walk-numbers-equals-the-rust, pull-equals-the-rust}
+use Rattle.as_the_crate.proofs.Equal.{walk-equals-the-rust, walk-numbers-equals-the-rust, pull-equals-the-rust, open-loses-nothing}
 use Rattle.as_the_crate.proofs.Overflow.{overflows-exactly-when}
 use Rattle.as_the_encoder.proofs.Encoding.{writes-as-the-rust}
 use Rattle.as_the_encoder.proofs.EncodingNested.{every-accepted-plan-is-nested}
@@ -57,6 +58,7 @@ demand-2 =
       one-step = one-step-exactly-when;
       missing = how-much-is-missing;
       starts = where-messages-start;
+      stands = where-messages-stand;
       starred = starred-hold;
       others = others-hold;
       each-refusal = witnesses-hold;
@@ -80,6 +82,7 @@ demand-2 =
       walk-is-the-rust's = walk-equals-the-rust;
       numbers-are-the-rust's = walk-numbers-equals-the-rust;
       pull-is-the-rust's = pull-equals-the-rust;
+      open-loses-nothing = open-loses-nothing;
       rust-overflows = overflows-exactly-when;
       writes-as-the-rust = writes-as-the-rust;
       every-plan-nested = every-accepted-plan-is-nested;

@@ -46,11 +46,11 @@ unfolding rowsOf
 three-each [] = refl
 three-each (s ∷ more) = let later = three-each more in omega arith
 
--- and a line twelve
-twelve-each : (lines : List Line) → length (linesOf lines) ≡ 12 * length lines
+-- and a line fifteen
+fifteen-each : (lines : List Line) → length (linesOf lines) ≡ 15 * length lines
 unfolding linesOf lineNumbers
-twelve-each [] = refl
-twelve-each (l ∷ more) = let later = twelve-each more in let sum = length-append (lineNumbers l) (linesOf more) in omega arith
+fifteen-each [] = refl
+fifteen-each (l ∷ more) = let later = fifteen-each more in let sum = length-append (lineNumbers l) (linesOf more) in omega arith
 
 -- a table that is filled in front
 pub held : {A : Type 0} (new before : List A) → length new ≤ length before → Holds new before (storedOver new before)
@@ -60,8 +60,8 @@ held new before fits = (take-at new (drop (length new) before) (length new) refl
 rows-fit : (sections : List Section) (numbers : ℕ) → length sections ≤ numbers / 3 → length (rowsOf sections) ≤ numbers
 rows-fit sections numbers fits = let three = three-each sections in omega arith
 
-lines-fit : (lines : List Line) (numbers : ℕ) → length lines ≤ numbers / 12 → length (linesOf lines) ≤ numbers
-lines-fit lines numbers fits = let twelve = twelve-each lines in omega arith
+lines-fit : (lines : List Line) (numbers : ℕ) → length lines ≤ numbers / 15 → length (linesOf lines) ≤ numbers
+lines-fit lines numbers fits = let fifteen = fifteen-each lines in omega arith
 
 pub walk-stores : WalkStores
 unfolding walkOf
@@ -74,7 +74,7 @@ walk-stores file rows lines =
 pub numbers-store : NumbersStore
 unfolding walkNumbers
 numbers-store file rows lines =
-    let room = roomOf (length rows) (length lines / 12) in
+    let room = roomOf (length rows) (length lines / 15) in
     let told = walked room file in
     let fits = within-room room file in (
       held (rowsOf (told .sections)) rows (rows-fit (told .sections) (length rows) (fits .0)),

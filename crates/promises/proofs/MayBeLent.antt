@@ -13,11 +13,18 @@ use denote.Enum.Laws as enum
 use Rattle.order.proofs.Place as PlaceRow
 use Rattle.order.specs.declared.Place.{Place}
 use Rattle.index.proofs.line.LocalUsePlace as LocalRow
+use Rattle.index.proofs.line.MessageEnd as EndRow
+use Rattle.index.proofs.line.Span as SpanRow
 use Rattle.index.proofs.line.Line as LineRow
+use Rattle.framing.proofs.read.Offset as OffsetRow
+use Rattle.framing.specs.declared.read.Offset.{Offset}
 use Rattle.index.specs.declared.line.Line.{Line}
 use Rattle.index.specs.declared.line.LocalUsePlace.{LocalUsePlace}
 use Rattle.index.specs.declared.line.LocalUsePlace.the-variants.{At, Absent}
-use Rattle.walk_numbers.specs.Numbers.{localPlace, lineNumbers, linesOf}
+use Rattle.index.specs.declared.line.MessageEnd.{MessageEnd}
+use Rattle.index.specs.declared.line.MessageEnd.the-variants.{GoesOn, ClosedAt}
+use Rattle.index.specs.declared.line.Span.{Span}
+use Rattle.walk_numbers.specs.Numbers.{localPlace, endPlace, lineNumbers, linesOf}
 use Rattle.promises.specs.Parameters.{Representable, AllRepresentable, MayBeLent}
 
 numbers-fit : (w : Width) (ns : List ℕ) → AllFit w ns → AllRepresentable (UInt w) ns
@@ -32,27 +39,58 @@ unfolding localPlace
 local-fits (At p) fit = enum.owes LocalRow.the-type LocalRow.Laws.the-laws (At p) (place-fits p fit, tt)
 local-fits Absent fit = enum.owes LocalRow.the-type LocalRow.Laws.the-laws Absent tt
 
+end-fits : (e : MessageEnd) → endPlace e < 2 ^ 64 → Is EndRow.the-row e (enum.vals EndRow.the-type EndRow.Laws.the-laws e)
+unfolding endPlace
+end-fits GoesOn fit = enum.owes EndRow.the-type EndRow.Laws.the-laws GoesOn tt
+end-fits (ClosedAt p) fit = enum.owes EndRow.the-type EndRow.Laws.the-laws (ClosedAt p) (place-fits p fit, tt)
+
+offset-fits : (o : Offset) → o .0 < 2 ^ 64 → Is OffsetRow.the-row o (struct.vals OffsetRow.the-type OffsetRow.Laws.the-laws o)
+offset-fits o fit = struct.owes OffsetRow.the-type OffsetRow.Laws.the-laws o ((refl, fit), tt)
+
+span-fits : (s : Span) → s .offset .0 < 2 ^ 64 → s .total < 2 ^ 64 → Is SpanRow.the-row s (struct.vals SpanRow.the-type SpanRow.Laws.the-laws s)
+span-fits s offset total = struct.owes SpanRow.the-type SpanRow.Laws.the-laws s (offset-fits (s .offset) offset, ((refl, total), tt))
+
 line-fits : (l : Line) → AllFit w64 (lineNumbers l) → Representable LineRow.the-row l
 unfolding lineNumbers
-line-fits l fit = (
-  struct.vals LineRow.the-type LineRow.Laws.the-laws l,
-  struct.owes LineRow.the-type LineRow.Laws.the-laws l (
-    (refl, fit .0 .fits),
-    (
-      (refl, fit .1 .0 .fits),
-      (
-        place-fits (l .indicator) (fit .1 .1 .1 .0 .fits),
+line-fits l fit =
+    let places = fit .1 .1 .1 .1 in
+    let later = places .1 .1 .1 .1 in (
+      struct.vals LineRow.the-type LineRow.Laws.the-laws l,
+      struct.owes LineRow.the-type LineRow.Laws.the-laws l (
+        (refl, fit .0 .fits),
         (
-          place-fits (l .identification) (fit .1 .1 .1 .1 .0 .fits),
+          (refl, fit .1 .0 .fits),
           (
-            local-fits (l .local) (fit .1 .1 .1 .1 .1 .0 .fits),
-            (place-fits (l .grid) (fit .1 .1 .1 .1 .1 .1 .0 .fits), (place-fits (l .product) (fit .1 .1 .1 .1 .1 .1 .1 .0 .fits), (place-fits (l .representation) (fit .1 .1 .1 .1 .1 .1 .1 .1 .0 .fits), (place-fits (l .bitmap) (fit .1 .1 .1 .1 .1 .1 .1 .1 .1 .0 .fits), (place-fits (l .values) (fit .1 .1 .1 .1 .1 .1 .1 .1 .1 .1 .0 .fits), (place-fits (l .end) (fit .1 .1 .1 .1 .1 .1 .1 .1 .1 .1 .1 .0 .fits), tt)))))),
+            place-fits (l .indicator) (places .0 .fits),
+            (
+              place-fits (l .identification) (places .1 .0 .fits),
+              (
+                local-fits (l .local) (places .1 .1 .0 .fits),
+                (
+                  place-fits (l .grid) (places .1 .1 .1 .0 .fits),
+                  (
+                    place-fits (l .product) (later .0 .fits),
+                    (
+                      place-fits (l .representation) (later .1 .0 .fits),
+                      (
+                        place-fits (l .bitmap) (later .1 .1 .0 .fits),
+                        (
+                          place-fits (l .values) (later .1 .1 .1 .0 .fits),
+                          (
+                            end-fits (l .end) (later .1 .1 .1 .1 .0 .fits),
+                            (span-fits (l .span) (later .1 .1 .1 .1 .1 .0 .fits) (later .1 .1 .1 .1 .1 .1 .0 .fits), tt),
+                          ),
+                        ),
+                      ),
+                    ),
+                  ),
+                ),
+              ),
+            ),
           ),
         ),
       ),
-    ),
-  ),
-)
+    )
 
 fit-apart : (w : Width) (xs ys : List ℕ) → AllFit w (xs ++ ys) → AllFit w xs × AllFit w ys
 fit-apart w [] ys fit = (tt, fit)

@@ -40,7 +40,7 @@ WalkStores =
 abbrev pub NumbersStore : Type 0
 NumbersStore =
     (file rows lines : List ℕ)
-    → let told = walked (roomOf (length rows) (length lines / 12)) file in
+    → let told = walked (roomOf (length rows) (length lines / 15)) file in
     let lent = walkNumbers file rows lines in
     Holds (rowsOf (told .sections)) rows (lent .rows)
     × Holds (linesOf (told .lines)) lines (lent .lines)

@@ -17,8 +17,10 @@ use Rattle.walk_laws.specs.Samples as samples
 use Rattle.walk_laws.specs.Witnesses as witnesses
 use Rattle.walk_laws.specs.Missing.{HowMuchIsMissing}
 use Rattle.walk_laws.specs.Starts.{WhereMessagesStart}
+use Rattle.walk_laws.specs.Spans.{WhereMessagesStand}
 use Rattle.walk_laws.specs.Laws as laws
 use Rattle.as_the_crate.specs.Equal as rust
+use Rattle.as_the_crate.specs.Open.{OpenLosesNothing}
 use Rattle.as_the_crate.specs.Overflow.{OverflowsExactlyWhen}
 use Rattle.as_the_encoder.specs.Writes.{WritesAsTheRust, EveryAcceptedPlanIsNested}
 use Rattle.blindness.specs.Agree.{Alike}
@@ -38,8 +40,7 @@ pub record Demand1 : Type 2 where
   -- every public function asks for nothing, can be called with any contents, ends, and gives the
   -- definition that is written beside its name: of contents alone, wherever they lie
   pub each-gives : EachGivesItsDefinition
-  -- walks and the reader of a list store what they tell before their end, and leave all else
-  pub walk-stores : lent.WalkStores
+  pub walk-stores : lent.WalkStores  -- what is told before the end is stored, all else is left
   pub numbers-store : lent.NumbersStore
   pub list-stores : lent.ListStores
   pub nothing-else : lent.NothingElseIsWritten
@@ -61,24 +62,22 @@ pub record Demand2 : Type 0 where
   pub one-step : OneStepExactlyWhen
   pub missing : HowMuchIsMissing  -- 02, Ticket 2: 2 tells an octet at least; each that comes counts
   pub starts : WhereMessagesStart  -- 02, Ticket 11: with 0 in every file; 11 is given inside alone
+  pub stands : WhereMessagesStand  -- 02, Ticket 7: where its section 0 says, to its section 8's end
   pub starred : samples.StarredHold  -- document 01's samples, and walks that give each refusal
   pub others : samples.OthersHold
   pub each-refusal : witnesses.WitnessesHold
-  -- closed messages are tiled by their sections, every section 8 closes one, and they are counted
-  pub tiled : laws.ClosedMessagesAreTiled
+  pub tiled : laws.ClosedMessagesAreTiled  -- by their sections; each 8 closes one, and they count
   pub ends-close : laws.EachEndClosesAMessage
   pub messages-counted : laws.MessagesAreEnds
-  -- no section 8 has place 0: in a line 0 says "goes on"; a refusal's place counts the sections
-  pub no-end-at-0 : laws.NoEndAtPlace0
-  pub place-is-count : laws.PlaceIsCount
+  pub no-end-at-0 : laws.NoEndAtPlace0  -- no section 8 has place 0
+  pub place-is-count : laws.PlaceIsCount  -- a refusal's place counts the sections
   pub over-at-last : laws.InputOverAtLast
   -- lent tables of any size get the beginning of the unlimited walk, and all of it if they hold it
   pub never-full : laws.UnlimitedIsNeverFull
   pub begins : laws.BeginsTheUnlimited
   pub held : laws.HeldIsUnlimited
   pub pull-hands-out : PullHandsOut  -- the walk's sections, its refusal once, then "ended"
-  -- a copy is refused by 1, 19 or the walk's refusals, or written, exactly when 01 says
-  pub copy-refuses : CopyRefusedExactlyWhen
+  pub copy-refuses : CopyRefusedExactlyWhen  -- by 1, 19 or the walk's refusals, as 01 says
   pub copy-written : CopyWrittenExactlyWhen
   pub inventory : TextInventory  -- 02, Ticket 1: what it says, each answer, that it reads back
   -- a plan is refused by 15 to 19, or taken, exactly when 01 says, and what is written reads back
@@ -92,6 +91,7 @@ pub record Demand2 : Type 0 where
   pub walk-is-the-rust's : rust.WalkEqualsTheRust
   pub numbers-are-the-rust's : rust.WalkNumbersEqualsTheRust
   pub pull-is-the-rust's : rust.PullEqualsTheRust
+  pub open-loses-nothing : OpenLosesNothing  -- its 0 for "goes on" is turned into that: one to one
   pub rust-overflows : OverflowsExactlyWhen
   pub writes-as-the-rust : WritesAsTheRust  -- the same octets of every accepted plan,
   pub every-plan-nested : EveryAcceptedPlanIsNested  -- which is a message of the Rust's

@@ -37,6 +37,8 @@ use Rattle.framing.proofs.read.Section as Section
 use Rattle.order.proofs.Order as Order
 use Rattle.order.proofs.Place as Place
 use Rattle.index.proofs.line.Force as Force
+use Rattle.index.proofs.line.MessageEnd as MessageEnd
+use Rattle.index.proofs.line.Span as Span
 use Rattle.index.proofs.line.Line as Line
 use Rattle.index.proofs.refusal.Outcome as Outcome
 use Rattle.reading.proofs.Reading as Reading
@@ -60,11 +62,11 @@ use Rattle.products.specs.Products.{productOf}
 use Rattle.framing.specs.Framing.{framed, readAt}
 use Rattle.framing.specs.Search.{nextStart}
 use Rattle.order.specs.Order.{judged, judgedRead, completes, isBetween, orderOf}
-use Rattle.index.specs.Lines.{opened, inForce, withSubmessage, lineOf, unlisted}
+use Rattle.index.specs.Lines.{opened, inForce, withSpan, withSubmessage, lineOf, unlisted}
 use Rattle.index.specs.Numbers.{endOf, stored, unplaced}
 use Rattle.reading.specs.Reading.{start, seen}
 use Rattle.standing.specs.Put.{rowPut}
-use Rattle.standing.specs.Standing.{oneMore, passedRow}
+use Rattle.standing.specs.Standing.{oneMore, spanAfter, passedRow}
 use Rattle.walk.specs.Tables.{walkOf}
 use Rattle.walk_numbers.specs.Numbers.{walkNumbers}
 use Rattle.pull.specs.Calls.{firstOf, pullAt}
@@ -159,10 +161,13 @@ pub record PublicFunctions (M : Type 1) : Type 2 where
   pub index-in-force : Gives M 0 (value Force.the-row ∷ value u64 ∷ value Place.the-row ∷ [])
       index.in_force.clauses index.in_force.Symbol.routine
       (λ (force, (number, (here, _))). inForce force number here)
+  pub index-with-span : Gives M 0 (value Force.the-row ∷ value Span.the-row ∷ [])
+      index.with_span.clauses index.with_span.Symbol.routine
+      (λ (force, (span, _)). withSpan force span)
   pub index-with-submessage : Gives M 0 (value Force.the-row ∷ value u64 ∷ [])
       index.with_submessage.clauses index.with_submessage.Symbol.routine
       (λ (force, (submessage, _)). withSubmessage force submessage)
-  pub index-line-of : Gives M 0 (value Force.the-row ∷ value Place.the-row ∷ [])
+  pub index-line-of : Gives M 0 (value Force.the-row ∷ value MessageEnd.the-row ∷ [])
       index.line_of.clauses index.line_of.Symbol.routine (λ (force, (end, _)). lineOf force end)
   pub index-unlisted : Gives M 0 [] index.unlisted.clauses index.unlisted.Symbol.routine
       (λ _. unlisted)
@@ -178,9 +183,14 @@ pub record PublicFunctions (M : Type 1) : Type 2 where
       reading.look.Symbol.routine (λ (file, (reading, _)). seen file reading)
   pub reading-glance : Gives M 1 (lent 0 tt u8 ∷ value Reading.the-row ∷ []) reading.glance.clauses
       reading.glance.Symbol.routine (λ (file, (reading, _)). seen file reading)
-  -- standing: a count, where a walk stands behind a section, and the whole section table
+  -- standing: a count, where a message and a walk stand behind a section, and the whole section
+  -- table
   pub standing-one-more : Gives M 0 (value u64 ∷ []) standing.one_more.clauses
       standing.one_more.Symbol.routine (λ (n, _). oneMore n)
+  pub standing-span-after :
+      Gives M 0 (value Span.the-row ∷ value Section.the-row ∷ value Cursor.the-row ∷ [])
+      standing.span_after.clauses standing.span_after.Symbol.routine
+      (λ (before, (section, (next, _))). spanAfter before section next)
   pub standing-passed-row :
       Gives M 0 (value Standing.the-row ∷ value Section.the-row ∷ value Reading.the-row ∷ [])
       standing.passed_row.clauses standing.passed_row.Symbol.routine

@@ -120,7 +120,7 @@ module _ (file d₀ : List ℕ) (fits : length file ≤ mostOctets) where
   unfolding stayed
   copying-first clean =
       record {
-        way = record { r = atStart; order = refl; bounded = first-bounded file; comes = ap (λ (t : Told). t .outcome) (sym (first-told file fits)) ∙ clean };
+        way = record { r = atStart file; order = refl; bounded = first-bounded file; comes = ap (λ (t : Told). t .outcome) (sym (first-told file fits)) ∙ clean };
         here = refl;
         inside = omega arith;
         written = wrote-none 0 d₀;

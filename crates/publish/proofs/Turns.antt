@@ -17,7 +17,7 @@ use Rattle.framing.proofs.OneRead.{Reads, reads, goes}
 use Rattle.framing.proofs.Listing.{listingOn, listing-next}
 use Rattle.order.specs.declared.Place.{Place}
 use Rattle.framing.specs.declared.read.Offset.{Offset}
-use Rattle.index.specs.Lines.{place}
+use Rattle.index.specs.Lines.{place, unlisted}
 use Rattle.index.specs.declared.listed.Listed.{Listed}
 use Rattle.index.specs.declared.refusal.Refusal.{Refusal}
 use Rattle.index.specs.declared.refusal.Outcome.{Outcome}
@@ -56,13 +56,13 @@ module _ (file : List ℕ) (fits : length file ≤ mostOctets) where
   pub first-on-way : OnWay (walked unlimited file .outcome) file start
   first-on-way =
       record {
-        r = atStart;
+        r = atStart file;
         order = refl;
         bounded = first-bounded file;
         comes = ap (λ (t : Told). t .outcome) (sym (first-told file fits));
       }
 
-  pub first-counting : Counting (walked unlimited file .outcome) file start 0 (atStart .last)
+  pub first-counting : Counting (walked unlimited file .outcome) file start 0 unlisted
   unfolding first-on-way
   first-counting = record { way = first-on-way; counted = refl; passed = refl }
 

@@ -179,7 +179,7 @@ refused-first file call e =
 -- one that isn't
 at-first : (file : List ℕ) → Stands file (firstOf file)
 unfolding firstOf
-at-first file = record { r = atStart; order = refl; bounded = first-bounded file; counted = refl; last = refl; going = refl }
+at-first file = record { r = atStart file; order = refl; bounded = first-bounded file; counted = refl; last = refl; going = refl }
 
 handed-first : (file : List ℕ) (call : ℕ) → length file ≤ mostOctets
     → answerAt call file (firstOf file) ≡ handsOut 0 (walked unlimited file .sections) (walked unlimited file .outcome) call

@@ -7,10 +7,9 @@ use lib.ListN.{length}
 use Rattle.octets.specs.Words.{pick}
 use Rattle.framing.specs.declared.read.Section.{Section}
 use Rattle.order.specs.declared.Place.{Place}
-use Rattle.index.specs.Lines.{place}
+use Rattle.index.specs.Lines.{place, unlisted}
 use Rattle.index.specs.declared.refusal.Refusal.the-variants as refusal
 use Rattle.index.specs.Bounds.{mostOctets}
-use Rattle.index.specs.Walk.{atStart}
 use Rattle.reading.specs.Reading.{start, seen}
 use Rattle.reading.specs.declared.Reading.{Reading}
 use Rattle.reading.specs.declared.Seen.{Seen}
@@ -22,7 +21,7 @@ use Rattle.pull.specs.declared.Pull.{Pull}
 
 -- before the first call
 unfoldable pub firstOf : List ℕ → Progress
-firstOf file = record { reading = start; place = place 0; last = atStart .last; over = false }
+firstOf file = record { reading = start; place = place 0; last = unlisted; over = false }
 
 -- the place behind this one; no file has so many sections that there is none
 unfoldable pub further : Place → Place

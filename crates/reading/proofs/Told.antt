@@ -21,6 +21,7 @@ use Rattle.framing.specs.Read as read
 use Rattle.framing.proofs.Listing.{listingOn, listing-next, listing-is}
 use Rattle.framing.proofs.Tests.{by-test}
 use Rattle.index.specs.Lines.{place, lineOf}
+use Rattle.index.specs.declared.line.MessageEnd.the-variants.{GoesOn}
 use Rattle.index.specs.declared.line.Line.{Line}
 use Rattle.index.specs.declared.refusal.Refusal.{Refusal}
 use Rattle.index.specs.declared.refusal.Refusal.the-variants as refusal
@@ -60,7 +61,7 @@ toldFrom file room r cursor =
 abbrev pub completed : Bool → Room → Reached → (Reached → List Line → Judgement) → Judgement
 completed true room r then =
     pick (leb (room .lines) (r .lines)) (stops [] refusal.SubmessageTableFull)
-    (then (goneOn r) (lineOf (r .force) (place 0) ∷ []))
+    (then (goneOn r) (lineOf (r .force) GoesOn ∷ []))
 completed false room r then = then r []
 
 -- what a walk tells because of what is seen, put before what it tells from there on
@@ -156,9 +157,9 @@ module _ (file : List ℕ) (room : Room) (r : Reached) where
 pub told-start : (file : List ℕ) (room : Room)
     → walked room file
     ≡ pick (ltb mostOctets (length file)) (ends (outcome.Refused refusal.FileTooLong (place 0) (record { 0 = 0 })))
-    (toldFrom file room atStart (spec.start .cursor))
+    (toldFrom file room (atStart file) (spec.start .cursor))
 unfolding walked toldFrom
 told-start file room =
     ap (λ (l : Listing). pick (ltb mostOctets (length file)) (ends (outcome.Refused refusal.FileTooLong (place 0) (record { 0 = 0 })))
-    (walkedFrom room atStart (l .sections) (l .ending)))
+    (walkedFrom room (atStart file) (l .sections) (l .ending)))
     (listing-is file)

@@ -18,14 +18,15 @@ use Rattle.framing.specs.declared.read.Cursor.{Cursor}
 use Rattle.framing.specs.declared.read.Fault.{Fault}
 use Rattle.framing.specs.Read as read
 use Rattle.framing.proofs.OneRead.{Reads, reads-as}
-use Rattle.index.specs.Lines.{place, opened, inForce, lineOf}
+use Rattle.index.specs.Lines.{place, opened, lineOf}
 use Rattle.index.specs.declared.line.Force.{Force}
+use Rattle.index.specs.declared.line.MessageEnd.the-variants.{GoesOn, ClosedAt}
 use Rattle.index.specs.declared.line.Line.{Line}
 use Rattle.index.specs.declared.refusal.Refusal.the-variants as refusal
 use Rattle.index.specs.declared.refusal.Outcome.{Outcome}
 use Rattle.index.specs.declared.refusal.Outcome.the-variants.{Clean, Refused}
 use Rattle.index.specs.Bounds.{mostOctets, unlimited}
-use Rattle.index.specs.Walk.{Reached, atStart, here, goneOn, fitted, closing, Told, walked}
+use Rattle.index.specs.Walk.{Reached, atStart, here, comesInForce, goneOn, fitted, closing, Told, walked}
 use Rattle.reading.specs.Reading.{reading, start, Settled, seen}
 use Rattle.reading.specs.declared.Reading.{Reading}
 use Rattle.reading.specs.declared.Seen.{Seen}
@@ -59,11 +60,11 @@ pub record Bounded (file : List ℕ) (r : Reached) (cursor : Cursor) : Type 0 wh
 -- last of its message
 pub data Moved (r : Reached) (s : Section) (next : Order) : Force → List Line → Type 0 where
   on-within : completes (r .order) (s .number) ≡ false → judged (r .order) (s .number) ≡ order.Fits next
-      → Moved r s next (inForce (r .force) (s .number) (place (r .sections))) []
+      → Moved r s next (comesInForce (r .file) (r .force) s (place (r .sections))) []
   on-completing : completes (r .order) (s .number) ≡ true → judged (r .order) (s .number) ≡ order.Fits next
-      → Moved r s next (inForce (goneOn r .force) (s .number) (place (r .sections))) (lineOf (r .force) (place 0) ∷ [])
+      → Moved r s next (comesInForce (r .file) (goneOn r .force) s (place (r .sections))) (lineOf (r .force) GoesOn ∷ [])
   on-closing : judged (r .order) (s .number) ≡ order.Closes
-      → Moved r s next (opened (r .force .message + 1)) (lineOf (r .force) (place (r .sections)) ∷ [])
+      → Moved r s next (opened (r .force .message + 1)) (lineOf (r .force) (ClosedAt (place (r .sections))) ∷ [])
 
 -- a section is passed: the walk goes on with q
 pub record Passes (file : List ℕ) (r : Reached) (cursor : Cursor) (s : Section) (next : Reading) : Type 0 where
@@ -87,10 +88,10 @@ pub record Ends (told : Told) (o : Outcome) : Type 0 where
   pub outcome : told .outcome ≡ o
 
 -- the walk of a file is what is told from its start on, and is bounded there
-pub first-told : (file : List ℕ) → length file ≤ mostOctets → walked unlimited file ≡ toldOn file atStart (start .cursor)
+pub first-told : (file : List ℕ) → length file ≤ mostOctets → walked unlimited file ≡ toldOn file (atStart file) (start .cursor)
 first-told file fits = told-start file unlimited ∙ simp (le-ltb _ _ fits)
 
-pub first-bounded : (file : List ℕ) → Bounded file atStart (start .cursor)
+pub first-bounded : (file : List ℕ) → Bounded file (atStart file) (start .cursor)
 first-bounded file = record { sections = omega arith; lines = omega arith; inside = omega arith; settled = λ between. refl }
 
 module _ (file : List ℕ) (fits : length file ≤ mostOctets) (r : Reached) (cursor : Cursor) (bounded : Bounded file r cursor) where
@@ -113,11 +114,12 @@ module _ (file : List ℕ) (fits : length file ≤ mostOctets) (r : Reached) (cu
         record {
           q =
               record {
+                file = r .file;
                 sections = r .sections + 1;
                 lines = r .lines + 1;
                 last = here r s;
                 order = next .order;
-                force = inForce (goneOn r .force) (s .number) (place (r .sections));
+                force = comesInForce (r .file) (goneOn r .force) s (place (r .sections));
               };
           order = refl;
           placed = refl;
@@ -133,7 +135,7 @@ module _ (file : List ℕ) (fits : length file ≤ mostOctets) (r : Reached) (cu
           between = λ b. absurd (never-both b (fits-open (r .order) (s .number) (passes-fits file (reading cursor (r .order)) (bounded .settled) e)));
           sections = ap (λ (t : Told). t .sections) (tells e) ∙ rw (c, lines, rows);
           outcome = ap (λ (t : Told). t .outcome) (tells e) ∙ rw (c, lines, rows);
-          lines = lineOf (r .force) (place 0) ∷ [];
+          lines = lineOf (r .force) GoesOn ∷ [];
           lined = refl;
           moved = on-completing c (passes-fits file (reading cursor (r .order)) (bounded .settled) e);
           lines-told = ap (λ (t : Told). t .lines) (tells e) ∙ rw (c, lines, rows);
@@ -142,11 +144,12 @@ module _ (file : List ℕ) (fits : length file ≤ mostOctets) (r : Reached) (cu
         record {
           q =
               record {
+                file = r .file;
                 sections = r .sections + 1;
                 lines = r .lines;
                 last = here r s;
                 order = next .order;
-                force = inForce (r .force) (s .number) (place (r .sections));
+                force = comesInForce (r .file) (r .force) s (place (r .sections));
               };
           order = refl;
           placed = refl;
@@ -174,6 +177,7 @@ module _ (file : List ℕ) (fits : length file ≤ mostOctets) (r : Reached) (cu
         record {
           q =
               record {
+                file = r .file;
                 sections = r .sections + 1;
                 lines = r .lines + 1;
                 last = here r s;
@@ -194,7 +198,7 @@ module _ (file : List ℕ) (fits : length file ≤ mostOctets) (r : Reached) (cu
           between = λ b. closes-only (r .order) (s .number) (closes-judged file (reading cursor (r .order)) (bounded .settled) e) .1;
           sections = ap (λ (t : Told). t .sections) (tells e) ∙ rw (rows, lines, closes-between file (reading cursor (r .order)) e);
           outcome = ap (λ (t : Told). t .outcome) (tells e) ∙ rw (rows, lines, closes-between file (reading cursor (r .order)) e);
-          lines = lineOf (r .force) (place (r .sections)) ∷ [];
+          lines = lineOf (r .force) (ClosedAt (place (r .sections))) ∷ [];
           lined = refl;
           moved = on-closing (closes-judged file (reading cursor (r .order)) (bounded .settled) e);
           lines-told = ap (λ (t : Told). t .lines) (tells e) ∙ rw (rows, lines, closes-between file (reading cursor (r .order)) e);

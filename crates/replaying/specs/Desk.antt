@@ -3,9 +3,10 @@
 use Prim.Native.Nat.{ℕ, min, _-_}
 use mathlib.Core.List.{List, _++_}
 use lib.ListN.{replicate}
-use Rattle.index.specs.Lines.{place}
+use Rattle.index.specs.Lines.{place, span}
 use Rattle.index.specs.declared.line.Line.{Line}
 use Rattle.index.specs.declared.line.LocalUsePlace.the-variants.{At}
+use Rattle.index.specs.declared.line.MessageEnd.the-variants.{ClosedAt}
 use Rattle.walk.specs.Tables.{Tabled, walkOf}
 
 -- the largest number
@@ -26,7 +27,8 @@ unset =
       representation = place largest;
       bitmap = place largest;
       values = place largest;
-      end = place largest;
+      end = ClosedAt (place largest);
+      span = span (record { 0 = largest }) largest;
     }
 
 -- the walk with so many of the desk's 512 lines lent

@@ -4,8 +4,11 @@ ghost use mathlib.Core.Path.{_≡_};
 ghost use Prim.Native.Nat.{min};
 ghost use lib.ListN.{length};
 ghost use Rattle.replaying.specs.Desk.{unset, deskWalk, deskLines};
+use framing::Offset;
 use index::Line;
 use index::LocalUsePlace;
+use index::MessageEnd;
+use index::Span;
 use order::Place;
 use walk::Answer;
 use walk::walk;
@@ -45,7 +48,11 @@ fn unset_line() -> Line
         representation: none,
         bitmap: none,
         values: none,
-        end: none,
+        end: MessageEnd::ClosedAt(none),
+        span: Span {
+            offset: Offset(u64::MAX),
+            total: u64::MAX,
+        },
     }
 }
 

@@ -9,6 +9,7 @@ use crate::printing::outcome;
 use crate::printing::text;
 use index::Line;
 use index::LocalUsePlace;
+use index::MessageEnd;
 use index::Outcome;
 use walk::Answer;
 
@@ -48,7 +49,8 @@ pub(crate) fn section_line(head: &[u8], number: u64, offset: u64, octets: u64) {
     line_end();
 }
 
-// Message and submessage number, then the nine places; `-` for no section 2.
+// Message and submessage number, then the nine places, with `-` for no section 2 and `open` for a
+// message that goes on; its octet offset and total length.
 fn submessage(line: Line) {
     let indicator = line.indicator;
     let identification = line.identification;
@@ -59,6 +61,8 @@ fn submessage(line: Line) {
     let bitmap = line.bitmap;
     let values = line.values;
     let end = line.end;
+    let span = line.span;
+    let offset = span.offset;
     decimal(line.message);
     text(b".");
     decimal(line.submessage);
@@ -70,7 +74,9 @@ fn submessage(line: Line) {
     field(representation.0);
     field(bitmap.0);
     field(values.0);
-    field(end.0);
+    message_end(end);
+    field(offset.0);
+    field(span.total);
     line_end();
 }
 
@@ -78,6 +84,13 @@ fn local_use(local: LocalUsePlace) {
     match local {
         LocalUsePlace::At(place) => field(place.0),
         LocalUsePlace::Absent => text(b" -"),
+    }
+}
+
+fn message_end(end: MessageEnd) {
+    match end {
+        MessageEnd::GoesOn => text(b" open"),
+        MessageEnd::ClosedAt(place) => field(place.0),
     }
 }
 

@@ -62,7 +62,7 @@ module _ (discipline reserved₁ reserved₂ : ℕ) (parts : List Part) (store :
       let n = long in
       let most = a .not-over in
       rw (le-ltb 1099511627776 (length file) (omega arith), listed)
-      (rw (to-end 16 parts) at (clean-message tables parts (a .ordered) rows lines))
+      (rw (to-end 16 parts) at (clean-message tables file parts (a .ordered) rows lines))
 
   message-reads-back : ReadsBack discipline parts store file total
   message-reads-back =

@@ -27,10 +27,11 @@ use Rattle.order.specs.declared.Judged.the-variants.{Fits}
 use Rattle.order.proofs.Laws.{ReachedBy, fits-number, fits-below, closes-only, completes-only, completes-there, starts-next}
 use Rattle.framing.specs.Listing.{over}
 use Rattle.framing.specs.declared.read.Section.{Section}
-use Rattle.index.specs.Lines.{place, inForce, withSubmessage, lineOf}
+use Rattle.index.specs.Lines.{place, withSubmessage, lineOf}
+use Rattle.index.specs.declared.line.MessageEnd.the-variants.{GoesOn}
 use Rattle.index.specs.declared.line.Line.{Line}
 use Rattle.index.specs.declared.bounds.Room.{Room}
-use Rattle.index.specs.Walk.{Reached, atStart, passes, here, fitted, closing, byOrder, judgement, concluded, walkedFrom}
+use Rattle.index.specs.Walk.{Reached, atStart, passes, here, comesInForce, fitted, closing, byOrder, judgement, concluded, walkedFrom}
 use Rattle.writer.specs.Plan.{Part, noFault, misfitFrom, misfit}
 use Rattle.writer.proofs.Checks.{misfit-passed, misfit-closed}
 use Rattle.round_trip.specs.ReadBack.{listedAs, linesIn, WalksClean}
@@ -103,13 +104,14 @@ goes room r s next fits rows lines = go (completes (r .order) (s .number)) refl
         record {
           next =
               record {
+                file = r .file;
                 sections = r .sections + 1;
                 lines = r .lines + 1;
                 last = here r s;
                 order = next;
-                force = inForce (withSubmessage (r .force) (r .force .submessage + 1)) (s .number) (place (r .sections));
+                force = comesInForce (r .file) (withSubmessage (r .force) (r .force .submessage + 1)) s (place (r .sections));
               };
-          told = lineOf (r .force) (place 0) ∷ [];
+          told = lineOf (r .force) GoesOn ∷ [];
           passed = rw (e, lt-leb (room .lines) (r .lines) (omega arith), starts, lt-leb (room .rows) (r .sections) rows);
           sections = refl;
           count = rw one;
@@ -121,11 +123,12 @@ goes room r s next fits rows lines = go (completes (r .order) (s .number)) refl
         record {
           next =
               record {
+                file = r .file;
                 sections = r .sections + 1;
                 lines = r .lines;
                 last = here r s;
                 order = next;
-                force = inForce (r .force) (s .number) (place (r .sections));
+                force = comesInForce (r .file) (r .force) s (place (r .sections));
               };
           told = [];
           passed = rw (e, fits, lt-leb (room .rows) (r .sections) rows);
@@ -187,12 +190,13 @@ clean-from room r from at (part ∷ more) passed rows lines =
     (subst (λ (n : ℕ). WalksClean (walkedFrom room (g .next) later over) later (n + linesIn more)) after rest)
 
 -- a message from its section 0 on
-pub clean-message : (room : Room) (parts : List Part) → misfit parts ≡ noFault → 2 + length parts ≤ room .rows → linesIn parts ≤ room .lines
-    → WalksClean (walkedFrom room atStart (listedAs 0 0 16 ∷ toEnd 16 parts) over) (listedAs 0 0 16 ∷ toEnd 16 parts) (linesIn parts)
+pub clean-message : (room : Room) (file : List ℕ) (parts : List Part) → misfit parts ≡ noFault → 2 + length parts ≤ room .rows
+    → linesIn parts ≤ room .lines
+    → WalksClean (walkedFrom room (atStart file) (listedAs 0 0 16 ∷ toEnd 16 parts) over) (listedAs 0 0 16 ∷ toEnd 16 parts) (linesIn parts)
 unfolding due judged
-clean-message room parts passed rows lines =
-    let g : Goes room atStart (listedAs 0 0 16) AfterIndicator 0 =
-    goes room atStart (listedAs 0 0 16) AfterIndicator refl (omega arith) (omega arith) in
+clean-message room file parts passed rows lines =
+    let g : Goes room (atStart file) (listedAs 0 0 16) AfterIndicator 0 =
+    goes room (atStart file) (listedAs 0 0 16) AfterIndicator refl (omega arith) (omega arith) in
     let sections = g .sections in
     let count = g .count in
     let reached = g .reached in
@@ -202,4 +206,4 @@ clean-message room parts passed rows lines =
     let lines-0 : WalksClean (walkedFrom room (g .next) (toEnd 16 parts) over) (toEnd 16 parts) (0 + linesIn parts) =
     subst (λ (n : ℕ). WalksClean (walkedFrom room (g .next) (toEnd 16 parts) over) (toEnd 16 parts) (n + linesIn parts)) none rest in
     rw (zero-add (0 + linesIn parts), zero-add (linesIn parts))
-    at (clean-more room atStart (listedAs 0 0 16) (toEnd 16 parts) AfterIndicator 0 (0 + linesIn parts) g lines-0)
+    at (clean-more room (atStart file) (listedAs 0 0 16) (toEnd 16 parts) AfterIndicator 0 (0 + linesIn parts) g lines-0)

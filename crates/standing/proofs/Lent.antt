@@ -18,7 +18,9 @@ use Rattle.framing.specs.declared.read.Cursor.{Cursor}
 use Rattle.framing.specs.declared.read.Fault.{Fault}
 use Rattle.framing.specs.declared.read.Offset.{Offset}
 use Rattle.framing.proofs.Tests.{by-test}
-use Rattle.index.specs.Lines.{place, inForce, opened, lineOf}
+use Rattle.index.specs.Lines.{place, withSpan, inForce, opened, lineOf}
+use Rattle.index.specs.declared.line.Span.{Span}
+use Rattle.index.specs.declared.line.MessageEnd.the-variants.{GoesOn, ClosedAt}
 use Rattle.index.specs.declared.line.Force.{Force}
 use Rattle.index.specs.declared.line.Line.{Line}
 use Rattle.index.specs.declared.refusal.Refusal.the-variants as refusal
@@ -26,15 +28,17 @@ use Rattle.index.specs.declared.refusal.Outcome.{Outcome}
 use Rattle.index.specs.declared.refusal.Outcome.the-variants as outcome
 use Rattle.index.specs.Bounds.{mostOctets}
 use Rattle.index.specs.declared.bounds.Room.{Room}
-use Rattle.index.specs.Walk.{Reached, atStart, here, Judgement, fitted, closing, goneOn, Told, ends, followed, walked}
+use Rattle.index.specs.Walk.{Reached, atStart, here, comesInForce, Judgement, fitted, closing, goneOn, Told, ends, followed, walked}
 use Rattle.standing.specs.Tables.{rowsOf, storedOver}
 use Rattle.standing.specs.Put.{putAt}
+use Rattle.standing.specs.Standing.{IsOctets}
+use Rattle.standing.proofs.Passed.{behind, said}
 use Rattle.standing.proofs.Put.{put-none, put-more, put-length, put-stored}
 use Rattle.reading.specs.Reading.{reading, start, Settled, seen}
 use Rattle.reading.specs.declared.Reading.{Reading}
 use Rattle.reading.specs.declared.Seen.{Seen}
 use Rattle.reading.specs.declared.Seen.the-variants.{Passes, Closes, Misplaced, NoGrid, Clean, InputOver, Unreadable}
-use Rattle.reading.proofs.Moves.{passes-settled, closes-between, closes-settled, seen-again}
+use Rattle.reading.proofs.Moves.{passes-reads, passes-settled, closes-between, closes-settled, seen-again}
 use Rattle.reading.proofs.Told.{toldFrom, toldBy, told-next, told-start}
 
 -- by cases on a test, for two choices
@@ -171,7 +175,7 @@ module _ {A : Type 0} (width : ℕ) (encode : Line → List A) (wide : (l : Line
 
   -- what the walk means
   abbrev pub meant : Out width encode wide
-  meant = out width encode wide atStart (walked room file) rows₀ lines₀
+  meant = out width encode wide (atStart file) (walked room file) rows₀ lines₀
 
   abbrev told : Told
   told = walked room file
@@ -187,9 +191,11 @@ module _ {A : Type 0} (width : ℕ) (encode : Line → List A) (wide : (l : Line
       (ap (λ (i : ℕ). putAt i (encoded width encode wide (told .lines)) lines₀) (zero-mul width)
       ∙ put-stored (encoded width encode wide (told .lines)) lines₀)
 
-  -- what is to come, put onto what stands, is what the walk means; no message and no submessage is without a line; between messages nothing of
-  -- one is to come
+  -- this file is walked, which is a list of octets; what is to come, put onto what stands, is what the walk means; no message and no submessage
+  -- is without a line; between messages nothing of one is to come
   pub record Kept (r : Reached) (cursor : Cursor) (rows : List ℕ) (lines : List A) : Type 0 where
+    pub same-file : r .file ≡ file
+    pub octets : IsOctets file
     pub same-rows : length rows ≡ length rows₀
     pub same-lines : length lines ≡ length lines₀
     pub comes : out width encode wide r (toldFrom file room r cursor) rows lines ≡ meant
@@ -197,12 +203,14 @@ module _ {A : Type 0} (width : ℕ) (encode : Line → List A) (wide : (l : Line
     pub submessages : r .force .submessage ≤ r .lines
     pub settled : Settled (reading cursor (r .order))
 
-  pub begins : length file ≤ mostOctets → Kept atStart (start .cursor) rows₀ lines₀
-  begins short =
+  pub begins : IsOctets file → length file ≤ mostOctets → Kept (atStart file) (start .cursor) rows₀ lines₀
+  begins octets short =
       record {
+        same-file = refl;
+        octets = octets;
         same-rows = refl;
         same-lines = refl;
-        comes = ap (λ (t : Told). out width encode wide atStart t rows₀ lines₀) (sym (told-start file room ∙ simp (le-ltb _ _ short)));
+        comes = ap (λ (t : Told). out width encode wide (atStart file) t rows₀ lines₀) (sym (told-start file room ∙ simp (le-ltb _ _ short)));
         messages = omega arith;
         submessages = omega arith;
         settled = λ between. refl;
@@ -211,8 +219,8 @@ module _ {A : Type 0} (width : ℕ) (encode : Line → List A) (wide : (l : Line
   pub too-long : mostOctets < length file
       → meant ≡ result width encode wide 0 0 0 (outcome.Refused refusal.FileTooLong (place 0) (record { 0 = 0 })) rows₀ lines₀
   too-long long =
-      ap (λ (t : Told). out width encode wide atStart t rows₀ lines₀) (told-start file room ∙ simp (lt-ltb _ _ long))
-      ∙ out-ends width encode wide atStart _ rows₀ lines₀
+      ap (λ (t : Told). out width encode wide (atStart file) t rows₀ lines₀) (told-start file room ∙ simp (lt-ltb _ _ long))
+      ∙ out-ends width encode wide (atStart file) _ rows₀ lines₀
 
   module _ {r : Reached} {cursor : Cursor} {rows : List ℕ} {lines : List A} (kept : Kept r cursor rows lines) where
     -- the walk ends here
@@ -291,10 +299,10 @@ module _ {A : Type 0} (width : ℕ) (encode : Line → List A) (wide : (l : Line
         omega (arith, below, more, enough, kept .same-lines)
 
     -- a section that fits is passed
-    pub passed : {s : Section} {next : Reading} (force : Force) → inForce (r .force) (s .number) (place (r .sections)) ≡ force
+    pub passed : {s : Section} {next : Reading} (force : Force) → behind (r .force) s (next .cursor) (place (r .sections)) ≡ force
         → seen file (reading cursor (r .order)) ≡ Passes s next → completes (r .order) (s .number) ≡ false → r .sections < length rows₀ / 3
         → Kept
-        (record { sections = r .sections + 1; lines = r .lines; last = here r s; order = next .order; force = force })
+        (record { file = r .file; sections = r .sections + 1; lines = r .lines; last = here r s; order = next .order; force = force })
         (next .cursor)
         (putAt (r .sections * 3) (s .number ∷ s .offset .0 ∷ s .length ∷ []) rows)
         lines
@@ -304,6 +312,8 @@ module _ {A : Type 0} (width : ℕ) (encode : Line → List A) (wide : (l : Line
         let message : force .message ≡ r .force .message = sym (ap (λ (g : Force). g .message) f) ∙ same .0 in
         let submessage : force .submessage ≡ r .force .submessage = sym (ap (λ (g : Force). g .submessage) f) ∙ same .1 in
         record {
+          same-file = kept .same-file;
+          octets = kept .octets;
           same-rows = put-length (r .sections * 3) (s .number ∷ s .offset .0 ∷ s .length ∷ []) rows (omega (arith, in-rows free)) ∙ kept .same-rows;
           same-lines = kept .same-lines;
           comes =
@@ -317,17 +327,25 @@ module _ {A : Type 0} (width : ℕ) (encode : Line → List A) (wide : (l : Line
         }
       where
         q : Reached
-        q = record { sections = r .sections + 1; lines = r .lines; last = here r s; order = next .order; force = force }
+        q = record { file = r .file; sections = r .sections + 1; lines = r .lines; last = here r s; order = next .order; force = force }
 
-        first : inForce (r .force) (s .number) (place (r .sections)) ≡ force
+        -- a section 0 says where its message stands
+        in-force : behind (r .force) s (next .cursor) (place (r .sections)) ≡ force → comesInForce (r .file) (r .force) s (place (r .sections)) ≡ force
+        in-force f =
+            ap (λ (x : Span). withSpan (inForce (r .force) (s .number) (place (r .sections))) x)
+            (said (cursor .at .0) (cursor .rest) (kept .same-file) (kept .octets) (r .force .span) (passes-reads file (reading cursor (r .order)) e))
+            ∙ f
+
+        first : behind (r .force) s (next .cursor) (place (r .sections)) ≡ force
             → toldBy file room r (Passes s next) ≡ sectionFirst width encode wide s 0 (toldFrom file room q (next .cursor))
-        first f = rw (c, lt-leb _ _ free, f)
+        first f = rw (c, lt-leb _ _ free, in-force f)
 
     -- a message is closed
     pub closed : {s : Section} {next : Reading} → seen file (reading cursor (r .order)) ≡ Closes s next
         → r .sections < length rows₀ / 3 → r .lines < most
         → Kept
         (record {
+          file = r .file;
           sections = r .sections + 1;
           lines = r .lines + 1;
           last = here r s;
@@ -336,10 +354,12 @@ module _ {A : Type 0} (width : ℕ) (encode : Line → List A) (wide : (l : Line
         })
         (next .cursor)
         (putAt (r .sections * 3) (s .number ∷ s .offset .0 ∷ s .length ∷ []) rows)
-        (putAt (r .lines * width) (encode (lineOf (r .force) (place (r .sections)))) lines)
+        (putAt (r .lines * width) (encode (lineOf (r .force) (ClosedAt (place (r .sections))))) lines)
     unfolding toldBy closing
     closed {s} {next} e free line =
         record {
+          same-file = kept .same-file;
+          octets = kept .octets;
           same-rows = put-length (r .sections * 3) (s .number ∷ s .offset .0 ∷ s .length ∷ []) rows (omega (arith, in-rows free)) ∙ kept .same-rows;
           same-lines = put-length (r .lines * width) (encode l) lines (rw (wide l) (in-lines line)) ∙ kept .same-lines;
           comes =
@@ -354,16 +374,16 @@ module _ {A : Type 0} (width : ℕ) (encode : Line → List A) (wide : (l : Line
         }
       where
         l : Line
-        l = lineOf (r .force) (place (r .sections))
+        l = lineOf (r .force) (ClosedAt (place (r .sections)))
 
         rows′ : List ℕ
         rows′ = putAt (r .sections * 3) (s .number ∷ s .offset .0 ∷ s .length ∷ []) rows
 
         q₁ : Reached
-        q₁ = record { sections = r .sections + 1; lines = r .lines; last = here r s; order = next .order; force = opened (r .force .message + 1) }
+        q₁ = record { file = r .file; sections = r .sections + 1; lines = r .lines; last = here r s; order = next .order; force = opened (r .force .message + 1) }
 
         q : Reached
-        q = record { sections = r .sections + 1; lines = r .lines + 1; last = here r s; order = next .order; force = opened (r .force .message + 1) }
+        q = record { file = r .file; sections = r .sections + 1; lines = r .lines + 1; last = here r s; order = next .order; force = opened (r .force .message + 1) }
 
         later : Told
         later = toldFrom file room q (next .cursor)
@@ -374,10 +394,12 @@ module _ {A : Type 0} (width : ℕ) (encode : Line → List A) (wide : (l : Line
     -- a submessage that goes on is told
     pub gone-on : {s : Section} {next : Reading} → seen file (reading cursor (r .order)) ≡ Passes s next
         → completes (r .order) (s .number) ≡ true → r .lines < most
-        → Kept (goneOn r) cursor rows (putAt (r .lines * width) (encode (lineOf (r .force) (place 0))) lines)
+        → Kept (goneOn r) cursor rows (putAt (r .lines * width) (encode (lineOf (r .force) GoesOn)) lines)
     unfolding toldBy completes fitted
     gone-on {s} {next} e c free =
         record {
+          same-file = kept .same-file;
+          octets = kept .octets;
           same-rows = kept .same-rows;
           same-lines = put-length (r .lines * width) (encode l) lines (rw (wide l) (in-lines free)) ∙ kept .same-lines;
           comes =
@@ -391,7 +413,7 @@ module _ {A : Type 0} (width : ℕ) (encode : Line → List A) (wide : (l : Line
         }
       where
         l : Line
-        l = lineOf (r .force) (place 0)
+        l = lineOf (r .force) GoesOn
 
         later : Reached → Told
         later q = toldFrom file room q (next .cursor)
@@ -415,7 +437,7 @@ module _ {A : Type 0} (width : ℕ) (encode : Line → List A) (wide : (l : Line
         ≡ result width encode wide (r .sections) (r .lines + 1) (r .force .message)
         (outcome.Refused (refusal.Misplaced (s .number)) (place (r .sections)) (s .offset))
         rows
-        (putAt (r .lines * width) (encode (lineOf (r .force) (place 0))) lines)
+        (putAt (r .lines * width) (encode (lineOf (r .force) GoesOn)) lines)
     unfolding toldBy
     misplaced-line {s} e c free =
         by e
@@ -424,7 +446,7 @@ module _ {A : Type 0} (width : ℕ) (encode : Line → List A) (wide : (l : Line
         ∙ out-ends width encode wide (goneOn r) end rows (putAt (r .lines * width) (encode l) lines)
       where
         l : Line
-        l = lineOf (r .force) (place 0)
+        l = lineOf (r .force) GoesOn
 
         end : Outcome
         end = outcome.Refused (refusal.Misplaced (s .number)) (place (r .sections)) (s .offset)
@@ -434,14 +456,14 @@ module _ {A : Type 0} (width : ℕ) (encode : Line → List A) (wide : (l : Line
 
   -- the section behind a submessage that goes on is passed, or finds the table full
   module _ {r : Reached} {cursor : Cursor} {rows : List ℕ} {lines : List A} (kept : Kept r cursor rows lines) where
-    pub passed-behind : {s : Section} {next : Reading} (force : Force) → inForce (goneOn r .force) (s .number) (place (r .sections)) ≡ force
+    pub passed-behind : {s : Section} {next : Reading} (force : Force) → behind (goneOn r .force) s (next .cursor) (place (r .sections)) ≡ force
         → seen file (reading cursor (r .order)) ≡ Passes s next → completes (r .order) (s .number) ≡ true → r .lines < most
         → r .sections < length rows₀ / 3
         → Kept
-        (record { sections = r .sections + 1; lines = r .lines + 1; last = here r s; order = next .order; force = force })
+        (record { file = r .file; sections = r .sections + 1; lines = r .lines + 1; last = here r s; order = next .order; force = force })
         (next .cursor)
         (putAt (r .sections * 3) (s .number ∷ s .offset .0 ∷ s .length ∷ []) rows)
-        (putAt (r .lines * width) (encode (lineOf (r .force) (place 0))) lines)
+        (putAt (r .lines * width) (encode (lineOf (r .force) GoesOn)) lines)
     passed-behind {s} force f e c line free =
         passed (gone-on kept e c line) force f (seen-again file cursor (r .order) e c) (none (s .number)) free
 
@@ -451,5 +473,5 @@ module _ {A : Type 0} (width : ℕ) (encode : Line → List A) (wide : (l : Line
         ≡ result width encode wide (r .sections) (r .lines + 1) (r .force .message)
         (outcome.Refused refusal.SectionTableFull (place (r .sections)) (s .offset))
         rows
-        (putAt (r .lines * width) (encode (lineOf (r .force) (place 0))) lines)
+        (putAt (r .lines * width) (encode (lineOf (r .force) GoesOn)) lines)
     no-row-behind {s} e c line full = no-row (gone-on kept e c line) (seen-again file cursor (r .order) e c) (none (s .number)) full

@@ -1,13 +1,18 @@
 // What every walk in lent tables keeps: where it stands, by value, and the rows of the sections
 // that it passed. What is in force is not here: its places are written one by one, and a copy of
-// all eight at each section would cost half as much as the rest.
+// all eight at each section would cost half as much as the rest; where the message stands only its
+// section 0 changes.
 ghost use mathlib.Core.Path.{_≡_};
 ghost use Rattle.standing.specs.Put.{rowPut};
-ghost use Rattle.standing.specs.Standing.{oneMore, passedRow};
+ghost use Rattle.standing.specs.Standing.{oneMore, totalOf, spanAfter, passedRow};
+use framing::Cursor;
 use framing::Section;
 use index::Listed;
+use index::Span;
 use order::Place;
 use reading::Reading;
+use sections::Indicator;
+use std::num::wrapping_add_u64;
 
 // Numbers of a row: section number, offset, length.
 pub const ROW: usize = 3;
@@ -36,6 +41,28 @@ pub fn one_more(n: u64) -> u64
         return n + 1;
     }
     n
+}
+
+// The total length of a message of which so much is left behind its section 0. Eight octets state
+// it, so that no file brings the sum to its end.
+fn total_of(rest: u64) -> u64
+    ensures { λ r. ⌜ r ≡ totalOf rest ⌝ }
+{
+    wrapping_add_u64(rest, Indicator::WHOLE_SIZE as u64)
+}
+
+// Where the message in hand stands, behind a section: a section 0 says it.
+pub fn span_after(before: Span, section: Section, next: Cursor) -> Span
+    ensures { λ r. ⌜ r ≡ spanAfter before section next ⌝ }
+{
+    if section.number == Indicator::NUMBER {
+        let offset = section.offset;
+        return Span {
+            offset,
+            total: total_of(next.rest),
+        };
+    }
+    before
 }
 
 // A section is passed.

@@ -11,9 +11,10 @@ use Rattle.framing.specs.declared.read.Section.{Section}
 use Rattle.framing.proofs.Tests.{by-test}
 use Rattle.order.specs.Order.{completes}
 use Rattle.order.specs.declared.Place.{Place}
-use Rattle.index.specs.Lines.{place, inForce}
+use Rattle.index.specs.Lines.{place}
 use Rattle.index.specs.declared.bounds.Room.{Room}
 use Rattle.index.specs.declared.line.LocalUsePlace.{LocalUsePlace}
+use Rattle.index.specs.declared.line.Span.{Span}
 use Rattle.reading.specs.Reading.{Settled, seen}
 use Rattle.reading.specs.declared.Reading.{Reading}
 use Rattle.reading.specs.declared.Seen.{Seen}
@@ -27,6 +28,7 @@ use Rattle.standing.specs.Put.{rowPut}
 use Rattle.standing.specs.Standing.{forceIn, passedRow}
 use Rattle.standing.specs.Tables.{roomOf}
 use Rattle.standing.proofs.Put.{row-length}
+use Rattle.standing.proofs.Passed.{behind}
 use Rattle.walk.specs.Turns.{
   rowsAfter,
   freshOf,
@@ -92,29 +94,29 @@ module _ (file : List ℕ) (room : Room) where
   stops most t rows e = rw e
 
 -- what is to come from here on is the whole step
-pub record Stepping (file rows₀ : List ℕ) (lines : ℕ) (room : Room) (before : Tally) (at : Standing) (local : LocalUsePlace) (places : List Place)
-    (rows : List ℕ) : Type 0 where
+pub record Stepping (file rows₀ : List ℕ) (lines : ℕ) (room : Room) (before : Tally) (at : Standing) (span : Span) (local : LocalUsePlace)
+    (places : List Place) (rows : List ℕ) : Type 0 where
   pub most : ℕ
   pub enough : length file - at .reading .cursor .at .0 < most
-  pub comes : stepsOf file room most (resumedOf before at local places) rows ≡ stepOf file lines before rows₀
+  pub comes : stepsOf file room most (resumedOf before at span local places) rows ≡ stepOf file lines before rows₀
   pub room-is : room ≡ roomOf (length rows₀) lines
   pub same-rows : length rows ≡ length rows₀
   pub settled : Settled (at .reading)
 
 pub begins : (file rows₀ : List ℕ) (lines : ℕ) (before : Tally) → Settled (before .reading)
-    → Stepping file rows₀ lines (roomOf (length rows₀) lines) before (standingOf before) (before .force .local) (before .force .places) rows₀
+    → Stepping file rows₀ lines (roomOf (length rows₀) lines) before (standingOf before) (before .force .span) (before .force .local) (before .force .places) rows₀
 unfolding stepOf stepsOf turnOf
 begins file rows₀ lines before settled =
     record { most = suc (length file); enough = omega arith; comes = refl; room-is = refl; same-rows = refl; settled = settled }
 
-module _ {file rows₀ : List ℕ} {lines : ℕ} {room : Room} {before : Tally} {at : Standing} {local : LocalUsePlace} {places : List Place} {rows : List ℕ}
-    (so-far : Stepping file rows₀ lines room before at local places rows) where
+module _ {file rows₀ : List ℕ} {lines : ℕ} {room : Room} {before : Tally} {at : Standing} {span : Span} {local : LocalUsePlace} {places : List Place} {rows : List ℕ}
+    (so-far : Stepping file rows₀ lines room before at span local places rows) where
   -- a turn is left
   one-left : so-far .most ≡ suc (so-far .most - 1)
   one-left = omega (arith, so-far .enough)
 
-  comes : stepsOf file room (suc (so-far .most - 1)) (resumedOf before at local places) rows ≡ stepOf file lines before rows₀
-  comes = subst (λ (n : ℕ). stepsOf file room n (resumedOf before at local places) rows ≡ stepOf file lines before rows₀) one-left (so-far .comes)
+  comes : stepsOf file room (suc (so-far .most - 1)) (resumedOf before at span local places) rows ≡ stepOf file lines before rows₀
+  comes = subst (λ (n : ℕ). stepsOf file room n (resumedOf before at span local places) rows ≡ stepOf file lines before rows₀) one-left (so-far .comes)
 
   -- what is seen here, as `row_only` tells it
   abbrev here : Only
@@ -142,32 +144,32 @@ module _ {file rows₀ : List ℕ} {lines : ℕ} {room : Room} {before : Tally} 
         let stands = passes-stands file (at .reading) (what .sees) in
         omega (arith, stands .inside, stands .forward, stands .later)
 
-    pub goes : {at′ : Standing} {local′ : LocalUsePlace} {places′ : List Place} {rows′ : List ℕ}
-        → inForce (forceIn at local places) (s .number) (place (at .sections)) ≡ forceIn at local′ places′
+    pub goes : {at′ : Standing} {span′ : Span} {local′ : LocalUsePlace} {places′ : List Place} {rows′ : List ℕ}
+        → behind (forceIn at span local places) s (next .cursor) (place (at .sections)) ≡ forceIn at span′ local′ places′
         → at′ ≡ passedRow at s next → rows′ ≡ rowPut (at .sections) s rows
-        → Stepping file rows₀ lines room before at′ local′ places′ rows′
-    goes {local′ = local′} {places′ = places′} force same put =
+        → Stepping file rows₀ lines room before at′ span′ local′ places′ rows′
+    goes {span′ = span′} {local′ = local′} {places′ = places′} force same put =
         rw (same, put)
         (record {
           most = so-far .most - 1;
           enough = omega (arith, so-far .enough, falls);
-          comes = next-is ∙ sym (goes-on file room (so-far .most - 1) (resumedOf before at local places) rows (l .is)) ∙ comes;
+          comes = next-is ∙ sym (goes-on file room (so-far .most - 1) (resumedOf before at span local places) rows (l .is)) ∙ comes;
           room-is = so-far .room-is;
           same-rows = row-length (at .sections) s rows ∙ so-far .same-rows;
           settled = passes-settled file (at .reading) (so-far .settled) (what .sees);
         })
       where
-        next-is : stepsOf file room (so-far .most - 1) (resumedOf before (passedRow at s next) local′ places′) (rowPut (at .sections) s rows)
-            ≡ stepsOf file room (so-far .most - 1) (freshOf (passedOf (freshOf (resumedOf before at local places)) s next)) (rowPut (at .sections) s rows)
+        next-is : stepsOf file room (so-far .most - 1) (resumedOf before (passedRow at s next) span′ local′ places′) (rowPut (at .sections) s rows)
+            ≡ stepsOf file room (so-far .most - 1) (freshOf (passedOf (freshOf (resumedOf before at span local places)) s next)) (rowPut (at .sections) s rows)
         next-is = rw force
 
   -- the turn behind them
   pub record Last (r : Tally) : Type 0 where
     pub more-than : here ≡ More
-    pub is : r ≡ bySeen (seen file (at .reading)) room (resumedOf before at local places)
+    pub is : r ≡ bySeen (seen file (at .reading)) room (resumedOf before at span local places)
 
   pub last-is : {v : Seen} {o : Only} {f r : Tally} → v ≡ seen file (at .reading) → o ≡ rowOnly room at v → o ≡ More
-      → f ≡ resumedOf before at local places → r ≡ bySeen v room f → Last r
+      → f ≡ resumedOf before at span local places → r ≡ bySeen v room f → Last r
   last-is e f g h k = record { more-than = told e f g; is = k ∙ rw (h, e) }
 
   module _ {r : Tally} (l : Last r) where
@@ -175,7 +177,7 @@ module _ {file rows₀ : List ℕ} {lines : ℕ} {room : Room} {before : Tally} 
         → (r ≡ stepOf file lines before rows₀ .tally) × (rows′ ≡ stepOf file lines before rows₀ .rows)
     unfolding turnOf
     done stored =
-        let whole = sym (stops file room (so-far .most - 1) (resumedOf before at local places) rows (l .more-than)) ∙ comes in (
+        let whole = sym (stops file room (so-far .most - 1) (resumedOf before at span local places) rows (l .more-than)) ∙ comes in (
           l .is ∙ ap (λ (x : Stepped). x .tally) whole,
           stored ∙ ap (λ (u : Tally). rowsAfter (u .passed) (u .last) rows) (l .is) ∙ ap (λ (x : Stepped). x .rows) whole,
         )

@@ -14,7 +14,8 @@ use Rattle.framing.specs.declared.read.Section.{Section}
 use Rattle.framing.specs.declared.read.Cursor.{Cursor}
 use Rattle.framing.proofs.Tests.{by-test, never-both}
 use Rattle.order.specs.Order.{completes}
-use Rattle.index.specs.Lines.{place, inForce, withSubmessage, lineOf}
+use Rattle.index.specs.Lines.{place, withSubmessage, lineOf}
+use Rattle.index.specs.declared.line.MessageEnd.the-variants.{GoesOn, ClosedAt}
 use Rattle.index.specs.declared.line.Line.{Line}
 use Rattle.index.specs.declared.refusal.Refusal.the-variants as refusal
 use Rattle.index.specs.declared.refusal.Outcome.{Outcome}
@@ -28,7 +29,7 @@ use Rattle.reading.specs.declared.Reading.{Reading}
 use Rattle.reading.specs.declared.Seen.{Seen}
 use Rattle.reading.specs.declared.Seen.the-variants.{Passes, Closes, Misplaced, NoGrid, Clean, InputOver, Unreadable}
 use Rattle.reading.proofs.Moves.{passes-stands, closes-stands}
-use Rattle.standing.specs.Standing.{oneMore}
+use Rattle.standing.specs.Standing.{IsOctets, oneMore}
 use Rattle.standing.specs.Tables.{roomOf, storedOver}
 use Rattle.walk.specs.Tables.{walkOf}
 use Rattle.walk.specs.declared.lines.Answer.{Answer}
@@ -61,7 +62,7 @@ use Rattle.walk.specs.declared.lines.Only.the-variants.{Row, More}
 use Rattle.walk.specs.declared.tally.Tally.{Tally}
 use Rattle.standing.specs.Put.{putAt}
 use Rattle.standing.proofs.Put.{put-one, row-there}
-use Rattle.standing.proofs.Passed.{more}
+use Rattle.standing.proofs.Passed.{more, behind}
 use Rattle.standing.proofs.Lent as lent
 use Rattle.standing.proofs.Lent.{encoded, Out, result}
 use Rattle.walk.proofs.Steps.{row-turn}
@@ -102,9 +103,9 @@ unfolding linesAfter
 line-put slot l lines free = put-one slot l lines free ∙ ap (λ (i : ℕ). putAt i (one l) lines) (sym (mul-one slot))
 
 -- what a tally has reached
-abbrev pub reachedOf : Tally → Reached
-reachedOf t =
-    record { sections = t .sections; lines = t .lines; last = t .last; order = t .reading .order; force = t .force }
+abbrev pub reachedOf : List ℕ → Tally → Reached
+reachedOf file t =
+    record { file = file; sections = t .sections; lines = t .lines; last = t .last; order = t .reading .order; force = t .force }
 
 module _ (file rows₀ : List ℕ) (lines₀ : List Line) where
   abbrev pub Kept : Reached → Cursor → List ℕ → List Line → Type 0
@@ -115,7 +116,7 @@ module _ (file rows₀ : List ℕ) (lines₀ : List Line) where
 
   -- where the walk goes on the tables are kept, and where it has ended they are as meant
   pub record Held (t : Tally) (rows : List ℕ) (lines : List Line) : Type 0 where
-    pub on : t .going ≡ true → Kept (reachedOf t) (t .reading .cursor) rows lines
+    pub on : t .going ≡ true → Kept (reachedOf file t) (t .reading .cursor) rows lines
     pub over : t .going ≡ false → meant ≡ result 1 one wide (t .sections) (t .lines) (t .force .message) (t .outcome) rows lines
 
   -- the answer and both tables, at the end
@@ -142,16 +143,16 @@ module _ (file rows₀ : List ℕ) (lines₀ : List Line) where
   abbrev Begins : Tally → Type 0
   Begins t = Held t rows₀ lines₀
 
-  pub begun : Held (begunOf (length file)) rows₀ lines₀
+  pub begun : IsOctets file → Held (begunOf (length file)) rows₀ lines₀
   unfolding begunOf
-  begun =
+  begun octets =
       by-test Begins (ltb mostOctets (length file))
       (λ long. record { on = λ g. absurd (never-both g refl); over = λ e. lent.too-long 1 one wide file rows₀ lines₀ (length lines₀) (enough lines₀) (ltb-true mostOctets (length file) long) })
-      λ short. record { on = λ g. lent.begins 1 one wide file rows₀ lines₀ (length lines₀) (enough lines₀) (ltb-false mostOctets (length file) short); over = λ e. absurd (never-both refl e) }
+      λ short. record { on = λ g. lent.begins 1 one wide file rows₀ lines₀ (length lines₀) (enough lines₀) octets (ltb-false mostOctets (length file) short); over = λ e. absurd (never-both refl e) }
 
   -- a turn
   module _ (fits₁ : length rows₀ < 2 ^ 64) (fits₂ : length lines₀ < 2 ^ 64) (t : Tally) (rows : List ℕ) (lines : List Line)
-      (going : t .going ≡ true) (kept : Kept (reachedOf t) (t .reading .cursor) rows lines) where
+      (going : t .going ≡ true) (kept : Kept (reachedOf file t) (t .reading .cursor) rows lines) where
     abbrev room : Room
     room = roomOf (length rows₀) (length lines₀)
 
@@ -176,7 +177,7 @@ module _ (file rows₀ : List ℕ) (lines₀ : List Line) where
     ends o e = stops (endedOf f o) refl (rw (row-none (t .last) rows, line-none (t .slot) (t .line) lines) e)
 
     goes : (u : Tally) → u .going ≡ true
-        → Kept (reachedOf u) (u .reading .cursor) (rowsAfter (u .passed) (u .last) rows) (linesAfter (u .due) (u .slot) (u .line) lines)
+        → Kept (reachedOf file u) (u .reading .cursor) (rowsAfter (u .passed) (u .last) rows) (linesAfter (u .due) (u .slot) (u .line) lines)
         → (t .reading .cursor .at .0 < length file) × (t .reading .cursor .at .0 < u .reading .cursor .at .0) → After u
     goes u on k l = record { held = record { on = λ g. k; over = λ g. absurd (never-both on g) }; less = λ g. l }
 
@@ -220,12 +221,12 @@ module _ (file rows₀ : List ℕ) (lines₀ : List Line) where
         let free : t .sections < length rows₀ / 3 = leb-false (length rows₀ / 3) (t .sections) left in
         goes (passedOf f s next) going
         (rw (row-stored s free, line-none (t .slot) (t .line) lines, sections-more free)
-        (lent.passed 1 one wide file rows₀ lines₀ (length lines₀) (enough lines₀) kept (inForce (t .force) (s .number) (place (t .sections))) refl e c free))
+        (lent.passed 1 one wide file rows₀ lines₀ (length lines₀) (enough lines₀) kept (behind (t .force) s (next .cursor) (place (t .sections))) refl e c free))
         (moves e)
 
     -- .. behind the submessage that it completes
     abbrev line : Line
-    line = lineOf (t .force) (place 0)
+    line = lineOf (t .force) GoesOn
 
     fits-behind : (s : Section) (next : Reading) → seen file (t .reading) ≡ Passes s next → completes (t .reading .order) (s .number) ≡ true
         → t .lines < length lines₀ → After (fittedOf room (toldOf f) s next)
@@ -247,7 +248,7 @@ module _ (file rows₀ : List ℕ) (lines₀ : List Line) where
           submessage-more room-left,
         )
         (lent.passed-behind 1 one wide file rows₀ lines₀ (length lines₀) (enough lines₀) kept
-        (inForce (withSubmessage (t .force) (t .force .submessage + 1)) (s .number) (place (t .sections))) refl e c room-left free))
+        (behind (withSubmessage (t .force) (t .force .submessage + 1)) s (next .cursor) (place (t .sections))) refl e c room-left free))
         (moves e)
 
     turns-by : (v : Seen) → seen file (t .reading) ≡ v → After (bySeen v room f)
@@ -270,7 +271,7 @@ module _ (file rows₀ : List ℕ) (lines₀ : List Line) where
         goes (shutOf f s next) going
         (rw (
           row-stored s free,
-          line-stored (lineOf (t .force) (place (t .sections))) room-left,
+          line-stored (lineOf (t .force) (ClosedAt (place (t .sections)))) room-left,
           sections-more free,
           lines-more room-left,
           message-more room-left,
@@ -307,7 +308,7 @@ module _ (file rows₀ : List ℕ) (lines₀ : List Line) where
           → (t .reading .cursor .at .0 < length file) × (t .reading .cursor .at .0 < o .tally .reading .cursor .at .0)
 
     abbrev Lefts : ℕ → Type 0
-    Lefts most = (t : Tally) (rows : List ℕ) → t .going ≡ true → Kept (reachedOf t) (t .reading .cursor) rows lines
+    Lefts most = (t : Tally) (rows : List ℕ) → t .going ≡ true → Kept (reachedOf file t) (t .reading .cursor) rows lines
         → length file - t .reading .cursor .at .0 < most → Left t (stepsOf file within most t rows)
 
     one-turn : (most : ℕ) → Lefts most → Lefts (suc most)
@@ -331,7 +332,7 @@ module _ (file rows₀ : List ℕ) (lines₀ : List Line) where
             let on : u .going ≡ true = ap (λ (x : Tally). x .going) is ∙ going in
             let none : linesAfter (u .due) (u .slot) (u .line) lines ≡ lines
             = ap (λ (x : Tally). linesAfter (x .due) (u .slot) (u .line) lines) is ∙ line-none (u .slot) (u .line) lines in
-            let kept′ = subst (Kept (reachedOf u) (u .reading .cursor) stored) none (after .held .on on) in
+            let kept′ = subst (Kept (reachedOf file u) (u .reading .cursor) stored) none (after .held .on on) in
             let moved = after .less on in
             let left = rest (freshOf u) stored on kept′ (omega (arith, less, moved .0, moved .1)) in
             record { held = left .held; less = λ g. let later = left .less g in (moved .0, omega (arith, moved .1, later .1)) }
@@ -341,7 +342,7 @@ module _ (file rows₀ : List ℕ) (lines₀ : List Line) where
     steps (suc most) = one-turn most (steps most)
 
     -- the step, with the tables as long as they are
-    pub stepped : (t : Tally) (rows : List ℕ) → t .going ≡ true → Kept (reachedOf t) (t .reading .cursor) rows lines
+    pub stepped : (t : Tally) (rows : List ℕ) → t .going ≡ true → Kept (reachedOf file t) (t .reading .cursor) rows lines
         → Left t (stepOf file (length lines) t rows)
     unfolding stepOf
     stepped t rows going kept = rw (kept .same-rows, kept .same-lines) (steps (suc (length file)) t rows going kept (omega arith))

@@ -9,7 +9,17 @@ use Rattle.octets.specs.Words.{pick}
 use Rattle.framing.specs.declared.read.Section.{Section}
 use Rattle.order.specs.Order.{completes}
 use Rattle.order.specs.declared.Place.{Place}
-use Rattle.index.specs.Lines.{place, opened, inForce, withSubmessage, lineOf}
+use Rattle.index.specs.Lines.{
+  place,
+  unlisted,
+  opened,
+  withSpan,
+  inForce,
+  withSubmessage,
+  lineOf,
+}
+use Rattle.index.specs.declared.line.MessageEnd.the-variants.{GoesOn, ClosedAt}
+use Rattle.index.specs.declared.line.Span.{Span}
 use Rattle.index.specs.declared.line.Line.{Line}
 use Rattle.index.specs.declared.line.LocalUsePlace.{LocalUsePlace}
 use Rattle.index.specs.declared.refusal.Refusal.{Refusal}
@@ -19,7 +29,6 @@ use Rattle.index.specs.declared.refusal.Outcome.the-variants as outcome
 use Rattle.index.specs.declared.listed.Listed.{Listed}
 use Rattle.index.specs.Bounds.{mostOctets}
 use Rattle.index.specs.declared.bounds.Room.{Room}
-use Rattle.index.specs.Walk.{atStart}
 use Rattle.reading.specs.Reading.{reading, start, seen}
 use Rattle.reading.specs.declared.Reading.{Reading}
 use Rattle.reading.specs.declared.Seen.{Seen}
@@ -37,7 +46,7 @@ use Rattle.walk.specs.declared.lines.Only.{Only}
 use Rattle.walk.specs.declared.lines.Only.the-variants.{Row, More}
 use Rattle.standing.specs.declared.Standing.{Standing}
 use Rattle.walk.specs.declared.tally.Tally.{Tally}
-use Rattle.standing.specs.Standing.{oneMore, forceIn}
+use Rattle.standing.specs.Standing.{oneMore, forceIn, spanAfter}
 use Rattle.standing.specs.Put.{rowPut}
 use Rattle.standing.specs.Tables.{roomOf}
 
@@ -57,11 +66,11 @@ unstarted =
       sections = 0;
       lines = 0;
       force = opened 0;
-      last = atStart .last;
+      last = unlisted;
       passed = false;
       due = false;
       slot = 0;
-      line = lineOf (opened 0) (place 0);
+      line = lineOf (opened 0) GoesOn;
       going = true;
       outcome = outcome.Clean;
     }
@@ -96,13 +105,13 @@ standingOf t =
     }
 
 -- a turn begins where a walk stands now, with this in force: nothing is due yet
-abbrev pub resumedOf : Tally → Standing → LocalUsePlace → List Place → Tally
-resumedOf t at local places =
+abbrev pub resumedOf : Tally → Standing → Span → LocalUsePlace → List Place → Tally
+resumedOf t at span local places =
     record {
       reading = at .reading;
       sections = at .sections;
       lines = at .lines;
-      force = forceIn at local places;
+      force = forceIn at span local places;
       last = at .last;
       passed = false;
       due = false;
@@ -132,7 +141,7 @@ endedOf t end =
 abbrev pub refusedOf : Tally → Refusal → Section → Tally
 refusedOf t why s = endedOf t (outcome.Refused why (place (t .sections)) (s .offset))
 
--- the submessage in hand is complete, and its message goes on: its line is due, with end place 0
+-- the submessage in hand is complete, and its message goes on: its line is due
 abbrev pub toldOf : Tally → Tally
 toldOf t =
     record {
@@ -144,7 +153,7 @@ toldOf t =
       passed = t .passed;
       due = true;
       slot = t .lines;
-      line = lineOf (t .force) (place 0);
+      line = lineOf (t .force) GoesOn;
       going = t .going;
       outcome = t .outcome;
     }
@@ -156,7 +165,9 @@ passedOf t s next =
       reading = next;
       sections = oneMore (t .sections);
       lines = t .lines;
-      force = inForce (t .force) (s .number) (place (t .sections));
+      force =
+          withSpan (inForce (t .force) (s .number) (place (t .sections)))
+          (spanAfter (t .force .span) s (next .cursor));
       last = record { place = place (t .sections); section = s };
       passed = true;
       due = t .due;
@@ -178,7 +189,7 @@ shutOf t s next =
       passed = true;
       due = true;
       slot = t .lines;
-      line = lineOf (t .force) (place (t .sections));
+      line = lineOf (t .force) (ClosedAt (place (t .sections)));
       going = t .going;
       outcome = outcome.Clean;
     }

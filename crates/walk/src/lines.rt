@@ -24,6 +24,7 @@ use standing::ROW;
 use standing::Standing;
 use standing::passed_row;
 use standing::put_row;
+use standing::span_after;
 
 // How many lines stand in each table, how many messages were closed, and how the walk ended.
 pub struct Answer {
@@ -87,6 +88,7 @@ fn step(file: &[u8], rows: &mut [u64], lines: usize, before: Tally) -> Tally
     };
     let force = before.force;
     let mut at = standing_of(before);
+    let mut span = force.span;
     let mut local = force.local;
     let mut places = force.places;
     loop {
@@ -97,14 +99,18 @@ fn step(file: &[u8], rows: &mut [u64], lines: usize, before: Tally) -> Tally
                 put_row(rows, at.sections, section);
                 let here = Place(at.sections);
                 at = passed_row(at, section, next);
-                if section.number == LocalUse::NUMBER {
+                // Of most sections the place is all; only those before section 2 are asked more.
+                if LocalUse::NUMBER < section.number {
+                    places[section.number as usize] = here;
+                } else if section.number == LocalUse::NUMBER {
                     local = LocalUsePlace::At(here);
                 } else {
+                    span = span_after(span, section, next.cursor);
                     places[section.number as usize] = here;
                 }
             }
             Only::More => {
-                let next = turn(room, resumed(before, at, local, places), seen);
+                let next = turn(room, resumed(before, at, span, local, places), seen);
                 let last = next.last;
                 put_passed(rows, next.passed, last);
                 return next;

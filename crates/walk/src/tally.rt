@@ -1,6 +1,7 @@
 // A turn of the walk, by value: what is reached, and what is due for the lent tables.
 ghost use mathlib.Core.Path.{_≡_};
 ghost use lib.ListN.{length};
+ghost use Rattle.standing.specs.Standing.{IsOctets};
 ghost use Rattle.walk.specs.Turns.{unstarted, begunOf, endedOf, refusedOf};
 ghost use Rattle.walk.specs.Turns.{standingOf, resumedOf, toldOf, passedOf, fittedOf};
 ghost use Rattle.walk.specs.Turns.{takenOf, closedOf, misplacedOf, bySeen};
@@ -11,13 +12,16 @@ use index::Line;
 use index::Listed;
 use index::LocalUsePlace;
 use index::MOST_OCTETS;
+use index::MessageEnd;
 use index::Outcome;
 use index::Refusal;
 use index::Room;
+use index::Span;
 use index::in_force;
 use index::line_of;
 use index::opened;
 use index::unlisted;
+use index::with_span;
 use index::with_submessage;
 use order::Place;
 use order::completing;
@@ -27,6 +31,7 @@ use reading::start;
 use standing::KEPT;
 use standing::Standing;
 use standing::one_more;
+use standing::span_after;
 
 pub(crate) struct Tally {
     // Where the next section is looked for.
@@ -61,7 +66,7 @@ fn unstarted() -> Tally
         passed: false,
         due: false,
         slot: 0,
-        line: line_of(force, Place(0)),
+        line: line_of(force, MessageEnd::GoesOn),
         going: true,
         outcome: Outcome::Clean,
     }
@@ -98,9 +103,11 @@ fn refused(t: Tally, why: Refusal, section: Section) -> Tally
     ended(t, Outcome::Refused(why, Place(t.sections), offset))
 }
 
-// Before the first turn: a file over 2^40 octets is refused.
+// Before the first turn: a file over 2^40 octets is refused. That it is octets is said for the loop,
+// whose proof, by hand, has no other word of it.
 pub(crate) fn begin(file: &[u8]) -> Tally
-    ensures { λ r. ⌜ r ≡ begunOf (length (now (file .entry))) ⌝ }
+    ensures tally { λ r. ⌜ r ≡ begunOf (length (now (file .entry))) ⌝ }
+    ensures octets { λ _. ⌜ IsOctets (now (file .entry)) ⌝ }
 {
     if MOST_OCTETS < file.len() as u64 {
         return ended(
@@ -129,8 +136,14 @@ pub(crate) fn standing_of(t: Tally) -> Standing
 }
 
 // A turn begins where a walk stands now, with this in force: nothing is due yet.
-pub(crate) fn resumed(t: Tally, at: Standing, local: LocalUsePlace, places: [Place; KEPT]) -> Tally
-    ensures { λ r. ⌜ r ≡ resumedOf t at local places ⌝ }
+pub(crate) fn resumed(
+    t: Tally,
+    at: Standing,
+    span: Span,
+    local: LocalUsePlace,
+    places: [Place; KEPT],
+) -> Tally
+    ensures { λ r. ⌜ r ≡ resumedOf t at span local places ⌝ }
 {
     let reading = at.reading;
     let last = at.last;
@@ -143,6 +156,7 @@ pub(crate) fn resumed(t: Tally, at: Standing, local: LocalUsePlace, places: [Pla
         force: Force {
             message: at.message,
             submessage: at.submessage,
+            span,
             local,
             places,
         },
@@ -165,7 +179,7 @@ fn told(mut t: Tally) -> Tally
     t.due = true;
     t.slot = t.lines as usize;
     t.lines = one_more(t.lines);
-    t.line = line_of(force, Place(0));
+    t.line = line_of(force, MessageEnd::GoesOn);
     t
 }
 
@@ -176,9 +190,10 @@ fn passed(mut t: Tally, section: Section, next: Reading) -> Tally
     let place = Place(t.sections);
     let force = t.force;
     let last = Listed { place, section };
+    let span = span_after(force.span, section, next.cursor);
     t.reading = next;
     t.sections = one_more(t.sections);
-    t.force = in_force(force, section.number, place);
+    t.force = with_span(in_force(force, section.number, place), span);
     t.last = last;
     t.passed = true;
     t
@@ -233,7 +248,7 @@ fn closed(room: Room, t: Tally, end: Section, next: Reading) -> Tally
         passed: true,
         due: true,
         slot: t.lines as usize,
-        line: line_of(force, place),
+        line: line_of(force, MessageEnd::ClosedAt(place)),
         going: t.going,
         outcome: Outcome::Clean,
     }

@@ -11,26 +11,26 @@ use Rattle.framing.specs.Listing.{listingFrom, listing}
 use Rattle.order.specs.Order.{judged, completes, isBetween}
 use Rattle.index.specs.Lines.{inForce, lineOf}
 use Rattle.index.specs.Numbers.{endOf, refusalNumber, refusalDetail, faultNumber, faultDetail}
-use Rattle.index.specs.Walk.{fitted, closing, byOrder, judgement, concluded, walkedFrom, walked}
+use Rattle.index.specs.Walk.{spanAt, spanBehind, fitted, closing, byOrder, judgement, concluded, walkedFrom, walked}
 use Rattle.walk_laws.specs.Samples.{printed, answer, starred, others, StarredHold, OthersHold}
 use Rattle.walk_laws.specs.Witnesses.{witnesses, WitnessesHold, TooLongRefused, LongFiles}
 
 pub starred-hold : StarredHold
-unfolding starred answer printed walked walkedFrom judgement byOrder closing fitted concluded lineOf inForce judged completes isBetween
-    endOf refusalNumber refusalDetail faultNumber faultDetail listing listingFrom readAt messageAt headerAt payloadAt isCut
-    endAt indicatorAt nextStart startAmong startsAt says leastPayloadOf kindOf kinds beAt signedOf
+unfolding starred answer printed walked walkedFrom judgement byOrder closing fitted concluded lineOf inForce spanAt spanBehind
+    judged completes isBetween endOf refusalNumber refusalDetail faultNumber faultDetail listing listingFrom readAt messageAt
+    headerAt payloadAt isCut endAt indicatorAt nextStart startAmong startsAt says leastPayloadOf kindOf kinds beAt signedOf
 starred-hold = refl
 
 pub others-hold : OthersHold
-unfolding others answer printed walked walkedFrom judgement byOrder closing fitted concluded lineOf inForce judged completes isBetween
-    endOf refusalNumber refusalDetail faultNumber faultDetail listing listingFrom readAt messageAt headerAt payloadAt isCut
-    endAt indicatorAt nextStart startAmong startsAt says leastPayloadOf kindOf kinds beAt signedOf
+unfolding others answer printed walked walkedFrom judgement byOrder closing fitted concluded lineOf inForce spanAt spanBehind
+    judged completes isBetween endOf refusalNumber refusalDetail faultNumber faultDetail listing listingFrom readAt messageAt
+    headerAt payloadAt isCut endAt indicatorAt nextStart startAmong startsAt says leastPayloadOf kindOf kinds beAt signedOf
 others-hold = refl
 
 pub witnesses-hold : WitnessesHold
-unfolding witnesses walked walkedFrom judgement byOrder closing fitted concluded lineOf inForce judged completes isBetween endOf
-    refusalNumber refusalDetail faultNumber faultDetail listing listingFrom readAt messageAt headerAt payloadAt isCut missing endAt
-    indicatorAt nextStart startAmong startsAt says leastPayloadOf kindOf kinds beAt
+unfolding witnesses walked walkedFrom judgement byOrder closing fitted concluded lineOf inForce spanAt spanBehind judged
+    completes isBetween endOf refusalNumber refusalDetail faultNumber faultDetail listing listingFrom readAt messageAt headerAt
+    payloadAt isCut missing endAt indicatorAt nextStart startAmong startsAt says leastPayloadOf kindOf kinds beAt
 witnesses-hold = refl
 
 pub too-long-refused : TooLongRefused

@@ -5,14 +5,15 @@ use native.Mathlib.Nat.{sub-zero}
 use mathlib.Core.Path.{_≡_, refl, sym, ap, subst}
 use mathlib.Core.Bool.{false}
 use mathlib.Core.List.{List, [], _∷_, _++_}
-use mathlib.Core.Logic.{_⊎_, inl, inr}
+use mathlib.Core.Logic.{inl, inr}
 use lib.ListN.{length, length-append}
-use borrow.Author.Tests.{eq-eqb, ne-eqb}
 use Rattle.octets.specs.Words.{Not}
 use Rattle.framing.specs.declared.read.Section.{Section}
 use Rattle.framing.proofs.OneRead.{reads-as, goes}
 use Rattle.order.specs.Order.{isBetween}
 use Rattle.order.specs.declared.Order.the-variants.{AfterData}
+use Rattle.index.specs.declared.line.MessageEnd.{MessageEnd}
+use Rattle.index.specs.declared.line.MessageEnd.the-variants.{GoesOn, ClosedAt}
 use Rattle.index.specs.declared.line.Line.{Line}
 use Rattle.index.specs.Numbers.{endOf}
 use Rattle.index.specs.declared.numbers.End.{End}
@@ -39,7 +40,8 @@ use Rattle.walk_laws.specs.ExactlyWhen.{
 }
 use Rattle.walk_laws.specs.Laws.{
   numberAt,
-  EndPlacesAreEnds,
+  EndIsTold,
+  EndsAreTold,
   closers,
   MessagesAreClosers,
   FewerThanOctets,
@@ -57,9 +59,9 @@ pub record Ample (r : Reached) : Type 0 where
   pub low : r .lines ≤ r .sections
   pub inside : isBetween (r .order) ≡ false → r .lines + 1 ≤ r .sections
 
-ample-start : Ample atStart
+ample-start : (file : List ℕ) → Ample (atStart file)
 unfolding isBetween
-ample-start = record { low = omega arith; inside = λ e. let z : _≡_ {A = ℕ} 0 1 = cc in absurd (omega arith) }
+ample-start file = record { low = omega arith; inside = λ e. let z : _≡_ {A = ℕ} 0 1 = cc in absurd (omega arith) }
 
 -- after 7 a message is open
 after-7 : (r : Reached) → Ample r → r .order ≡ AfterData → r .lines + 1 ≤ r .sections
@@ -80,7 +82,7 @@ ample-next {r = r} {reached = reached} p ample = go (p .way) (p .counted) (p .on
 
 -- at every stand
 pub walks-to-ample : {room : Room} {file : List ℕ} {at rest : ℕ} {r : Reached} → WalksTo room file at rest r → (r .sections ≤ at) × Ample r
-walks-to-ample fromStart = (omega arith, ample-start)
+walks-to-ample {file = file} fromStart = (omega arith, ample-start file)
 walks-to-ample {room} {file} (stepOn {at} {rest} {r = r} {s = s} c e f) =
     let k = walks-to-ample c in
     let low = k .0 in
@@ -90,9 +92,9 @@ walks-to-ample {room} {file} (stepOn {at} {rest} {r = r} {s = s} c e f) =
 
 pub fewer-than-octets : FewerThanOctets
 fewer-than-octets room file = (
-  of-walk room file (λ t. length (t .sections) ≤ length file) (λ how. omega arith) (let k = sections 0 0 atStart in omega arith),
+  of-walk room file (λ t. length (t .sections) ≤ length file) (λ how. omega arith) (let k = sections 0 0 (atStart file) in omega arith),
   of-walk room file (λ t. length (t .lines) ≤ length (t .sections)) (λ how. omega arith)
-      (let k = lines 0 0 atStart ample-start in omega arith),
+      (let k = lines 0 0 (atStart file) (ample-start file) in omega arith),
 )
   where
     sections : (at rest : ℕ) (r : Reached) → length (on room file at rest r .sections) ≤ length file - at
@@ -120,9 +122,9 @@ fewer-than-octets room file = (
 pub within-room : WithinRoom
 within-room room file = (
   of-walk room file (λ t. length (t .sections) ≤ room .rows) (λ how. omega arith)
-      (let k = sections 0 0 atStart (omega arith) in omega arith),
+      (let k = sections 0 0 (atStart file) (omega arith) in omega arith),
   of-walk room file (λ t. length (t .lines) ≤ room .lines) (λ how. omega arith)
-      (let k = lines 0 0 atStart (omega arith) in omega arith),
+      (let k = lines 0 0 (atStart file) (omega arith) in omega arith),
 )
   where
     sections : (at rest : ℕ) (r : Reached) → r .sections ≤ room .rows
@@ -151,73 +153,75 @@ within-room room file = (
         omega arith)
 
 -- a line's end, among sections that are told from a place on
-abbrev EndsIn : ℕ → List Section → Line → Type 0
-EndsIn from sections line = (line .end .0 ≡ 0) ⊎ ((from ≤ line .end .0) × (numberAt sections (line .end .0 - from) ≡ 8))
+abbrev EndsIn : ℕ → List Section → MessageEnd → Type 0
+EndsIn from sections GoesOn = Unit
+EndsIn from sections (ClosedAt p) = (from ≤ p .0) × (numberAt sections (p .0 - from) ≡ 8)
 
-every-map : {A : Type 0} {So Then : A → Type 0} (l : List A) → ((a : A) → So a → Then a) → Every So l → Every Then l
+pub every-map : {A : Type 0} {So Then : A → Type 0} (l : List A) → ((a : A) → So a → Then a) → Every So l → Every Then l
 every-map [] f h = tt
 every-map (a ∷ l) f h = (f a (h .0), every-map l f (h .1))
 
-one-earlier : (from : ℕ) (s : Section) (sections : List Section) (line : Line) → EndsIn (from + 1) sections line
-    → EndsIn from (s ∷ sections) line
-one-earlier from s sections line (inl e) = inl e
-one-earlier from s sections line (inr (low, eight)) =
-    let e : suc (line .end .0 - (from + 1)) ≡ line .end .0 - from = omega arith in
-    inr (omega arith, subst (λ (k : ℕ). numberAt (s ∷ sections) k ≡ 8) e eight)
+one-earlier : (from : ℕ) (s : Section) (sections : List Section) (end : MessageEnd) → EndsIn (from + 1) sections end
+    → EndsIn from (s ∷ sections) end
+one-earlier from s sections GoesOn so = tt
+one-earlier from s sections (ClosedAt p) (low, eight) =
+    let e : suc (p .0 - (from + 1)) ≡ p .0 - from = omega arith in
+    (omega arith, subst (λ (k : ℕ). numberAt (s ∷ sections) k ≡ 8) e eight)
 
-pub end-places-are-ends : EndPlacesAreEnds
-end-places-are-ends room file =
-    of-walk room file (λ t. Every (λ line. (line .end .0 ≡ 0) ⊎ (numberAt (t .sections) (line .end .0) ≡ 8)) (t .lines)) (λ how. tt)
-    (every-map (on room file 0 0 atStart .lines) at-0
-    (each-stand room file (λ at rest r t. Every (EndsIn (r .sections) (t .sections)) (t .lines)) (λ at rest r how same. tt)
+pub ends-are-told : EndsAreTold
+ends-are-told room file =
+    of-walk room file (λ t. Every (λ line. EndIsTold (t .sections) (line .end)) (t .lines)) (λ how. tt)
+    (every-map (on room file 0 0 (atStart file) .lines) (λ line. at-0 (line .end))
+    (each-stand room file (λ at rest r t. Every (λ line. EndsIn (r .sections) (t .sections) (line .end)) (t .lines))
+    (λ at rest r how same. tt)
     (λ at rest r s c lines why e f. left r lines (halting room r s f .told))
     (λ at rest r s c lines closed reached later e f so.
     let p = passing room r s f in
     go r s lines closed reached (p .way) later
-    (every-map (later .lines) (one-earlier (r .sections) s (later .sections))
-    (subst (λ (k : ℕ). Every (EndsIn k (later .sections)) (later .lines)) (p .one) so)))
-    0 0 atStart))
+    (every-map (later .lines) (λ line. one-earlier (r .sections) s (later .sections) (line .end))
+    (subst (λ (k : ℕ). Every (λ line. EndsIn k (later .sections) (line .end)) (later .lines)) (p .one) so)))
+    0 0 (atStart file)))
   where
-    at-0 : (line : Line) → EndsIn 0 (on room file 0 0 atStart .sections) line
-        → (line .end .0 ≡ 0) ⊎ (numberAt (on room file 0 0 atStart .sections) (line .end .0) ≡ 8)
-    at-0 line (inl e) = inl e
-    at-0 line (inr (low, eight)) = inr (rw sub-zero at eight)
+    at-0 : (end : MessageEnd) → EndsIn 0 (on room file 0 0 (atStart file) .sections) end
+        → EndIsTold (on room file 0 0 (atStart file) .sections) end
+    at-0 GoesOn so = tt
+    at-0 (ClosedAt p) (low, eight) = rw sub-zero at eight
 
-    left : (r : Reached) (lines : List Line) → Left r lines → Every (EndsIn (r .sections) []) lines
+    goes-on : (from : ℕ) (sections : List Section) (end : MessageEnd) → end ≡ GoesOn → EndsIn from sections end
+    goes-on from sections end e = subst (EndsIn from sections) (sym e) tt
+
+    left : (r : Reached) (lines : List Line) → Left r lines → Every (λ line. EndsIn (r .sections) [] (line .end)) lines
     left r _ nothing = tt
-    left r _ (oneLine order end) = (inl (ap (λ p. p .0) end), tt)
+    left r _ (oneLine {line} order end) = (goes-on (r .sections) [] (line .end) end, tt)
 
     go : (r : Reached) (s : Section) (lines : List Line) (closed : ℕ) (reached : Reached) → Way r s lines closed reached → (later : Told)
-        → Every (EndsIn (r .sections) (s ∷ later .sections)) (later .lines)
-        → Every (EndsIn (r .sections) (s ∷ later .sections)) (lines ++ later .lines)
+        → Every (λ line. EndsIn (r .sections) (s ∷ later .sections) (line .end)) (later .lines)
+        → Every (λ line. EndsIn (r .sections) (s ∷ later .sections) (line .end)) (lines ++ later .lines)
     go r s _ _ _ (within below ajar) later so = so
-    go r s _ _ _ (goneFurther below ajar order end) later so = (inl (ap (λ p. p .0) end), so)
+    go r s _ _ _ (goneFurther {line} below ajar order end) later so = (goes-on (r .sections) (s ∷ later .sections) (line .end) end, so)
     go r s _ _ _ (shut {line} eight clean order end) later so =
-        let here : line .end .0 ≡ r .sections = ap (λ p. p .0) end in
-        let zeroth : line .end .0 - r .sections ≡ 0 = omega arith in
-        (inr (omega arith, subst (λ (k : ℕ). numberAt (s ∷ later .sections) k ≡ 8) (sym zeroth) eight), so)
+        let zeroth : r .sections - r .sections ≡ 0 = omega arith in (
+          subst (EndsIn (r .sections) (s ∷ later .sections)) (sym end)
+              (omega arith, subst (λ (k : ℕ). numberAt (s ∷ later .sections) k ≡ 8) (sym zeroth) eight),
+          so,
+        )
 
 pub messages-are-closers : MessagesAreClosers
 messages-are-closers room file =
     of-walk room file (λ t. t .messages ≡ closers (t .lines)) (λ how. refl)
-    (each-stand room file (λ at rest r t. Ample r → t .messages ≡ closers (t .lines)) (λ at rest r how same ample. refl)
-    (λ at rest r s c lines why e f ample. left r lines (halting room r s f .told))
-    (λ at rest r s c lines closed reached later e f so ample.
-    let p = passing room r s f in go r s lines closed reached ample (p .way) later (so (ample-next p ample))) 0 0 atStart ample-start)
+    (each-stand room file (λ at rest r t. t .messages ≡ closers (t .lines)) (λ at rest r how same. refl)
+    (λ at rest r s c lines why e f. left r lines (halting room r s f .told))
+    (λ at rest r s c lines closed reached later e f so. go r s lines closed reached (passing room r s f .way) later so) 0 0 (atStart file))
   where
     left : (r : Reached) (lines : List Line) → Left r lines → 0 ≡ closers lines
     left r _ nothing = refl
-    left r _ (oneLine {line} order end) = rw (eq-eqb (line .end .0) 0 (ap (λ p. p .0) end))
+    left r _ (oneLine {line} order end) = rw end
 
-    go : (r : Reached) (s : Section) (lines : List Line) (closed : ℕ) (reached : Reached) → Ample r → Way r s lines closed reached
+    go : (r : Reached) (s : Section) (lines : List Line) (closed : ℕ) (reached : Reached) → Way r s lines closed reached
         → (later : Told) → later .messages ≡ closers (later .lines) → closed + later .messages ≡ closers (lines ++ later .lines)
-    go r s _ _ _ ample (within below ajar) later so = omega arith
-    go r s _ _ _ ample (goneFurther {line} below ajar order end) later so =
-        rw (eq-eqb (line .end .0) 0 (ap (λ p. p .0) end), so)
-    go r s _ _ _ ample (shut {line} eight clean order end) later so =
-        let here : line .end .0 ≡ r .sections = ap (λ p. p .0) end in
-        let some = after-7 r ample order in
-        rw (ne-eqb (line .end .0) 0 (λ z. omega arith), so)
+    go r s _ _ _ (within below ajar) later so = omega arith
+    go r s _ _ _ (goneFurther {line} below ajar order end) later so = rw (end, so)
+    go r s _ _ _ (shut {line} eight clean order end) later so = rw (end, so)
 
 -- a row of the tables is first where they are full
 full : (room : Room) (b : Stand) (number n d : ℕ) → FirstRow (rowsAfterRead room b number) n d

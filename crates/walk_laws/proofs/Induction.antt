@@ -70,9 +70,9 @@ module _ (room : Room) (file : List ℕ) (Q : ℕ → ℕ → Reached → Told �
   each-stand at rest r = by-reads (suc (length file - at)) at rest r (omega arith)
 
 -- and of a whole walk
-pub of-walk : (room : Room) (file : List ℕ) (Q : Told → Type 0) → ((how : Outcome) → Q (ends how)) → Q (on room file 0 0 atStart)
+pub of-walk : (room : Room) (file : List ℕ) (Q : Told → Type 0) → ((how : Outcome) → Q (ends how)) → Q (on room file 0 0 (atStart file))
     → Q (walked room file)
 unfolding walked on
 of-walk room file Q over started =
     by-test Q (ltb 1099511627776 (length file)) (λ e. over _) λ e.
-    subst Q (sym (ap (λ (l : list.Listing). walkedFrom room atStart (l .sections) (l .ending)) (listing-is file))) started
+    subst Q (sym (ap (λ (l : list.Listing). walkedFrom room (atStart file) (l .sections) (l .ending)) (listing-is file))) started

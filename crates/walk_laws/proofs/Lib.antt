@@ -12,6 +12,7 @@ pub mod Messages
 pub mod Counts
 pub mod Places
 pub mod Starts
+pub mod Spans
 pub mod Unlimited
 pub mod Missing
 pub mod Computed

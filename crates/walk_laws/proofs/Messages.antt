@@ -40,7 +40,7 @@ pub told-run : (room : Room) (file : List ℕ) → Run file 0 0 (walked room fil
 told-run room file =
     of-walk room file (λ t. Run file 0 0 (t .sections)) (λ how. tt)
     (each-stand room file (λ at rest r t. Run file at rest (t .sections)) (λ at rest r how same. tt) (λ at rest r s c lines why e f. tt)
-    (λ at rest r s c lines closed reached later e f so. (c, e, so)) 0 0 atStart)
+    (λ at rest r s c lines closed reached later e f so. (c, e, so)) 0 0 (atStart file))
 
 abbrev NotZero : Section → Type 0
 NotZero s = Not (s .number ≡ 0)
@@ -143,7 +143,7 @@ messages-are-ends room file =
     of-walk room file (λ t. t .messages ≡ countOf 8 (t .sections)) (λ how. refl)
     (each-stand room file (λ at rest r t. t .messages ≡ countOf 8 (t .sections)) (λ at rest r how same. refl)
     (λ at rest r s c lines why e f. refl)
-    (λ at rest r s c lines closed reached later e f so. go r s lines closed reached (passing room r s f .way) later so) 0 0 atStart)
+    (λ at rest r s c lines closed reached later e f so. go r s lines closed reached (passing room r s f .way) later so) 0 0 (atStart file))
   where
     go : (r : Reached) (s : Section) (lines : List Line) (closed : ℕ) (reached : Reached) → Way r s lines closed reached → (later : Told)
         → later .messages ≡ countOf 8 (later .sections) → closed + later .messages ≡ pick (eqb (s .number) 8) 1 0 + countOf 8 (later .sections)

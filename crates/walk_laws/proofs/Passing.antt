@@ -15,6 +15,7 @@ use Rattle.order.specs.declared.Judged.{Judged}
 use Rattle.order.specs.declared.Judged.the-variants as says
 use Rattle.order.proofs.Laws.{apart, fits-below, fits-open, closes-only, completes-only}
 use Rattle.index.specs.Lines.{place, lineOf}
+use Rattle.index.specs.declared.line.MessageEnd.the-variants.{GoesOn, ClosedAt}
 use Rattle.index.specs.declared.line.Line.{Line}
 use Rattle.index.specs.declared.refusal.Refusal.{Refusal}
 use Rattle.index.specs.declared.bounds.Room.{Room}
@@ -24,16 +25,16 @@ use Rattle.index.specs.Walk.{Reached, Judgement, stops, passes, here, fitted, c
 pub data Way (r : Reached) (s : Section) : List Line → ℕ → Reached → Type 0 where
   within : {reached : Reached} → s .number < 8 → isBetween (reached .order) ≡ false → Way r s [] 0 reached
   goneFurther : {line : Line} {reached : Reached} → s .number < 8 → isBetween (reached .order) ≡ false → r .order ≡ AfterData
-      → line .end ≡ place 0
+      → line .end ≡ GoesOn
       → Way r s (line ∷ []) 0 reached
   shut : {line : Line} {reached : Reached} → s .number ≡ 8 → isBetween (reached .order) ≡ true → r .order ≡ AfterData
-      → line .end ≡ place (r .sections)
+      → line .end ≡ ClosedAt (place (r .sections))
       → Way r s (line ∷ []) 1 reached
 
 -- a section that is refused has told a line of a submessage that goes on, or none
 pub data Left (r : Reached) : List Line → Type 0 where
   nothing : Left r []
-  oneLine : {line : Line} → r .order ≡ AfterData → line .end ≡ place 0 → Left r (line ∷ [])
+  oneLine : {line : Line} → r .order ≡ AfterData → line .end ≡ GoesOn → Left r (line ∷ [])
 
 pub record Halting (room : Room) (r : Reached) (lines : List Line) : Type 0 where
   pub held : r .lines ≤ room .lines → r .lines + length lines ≤ room .lines
@@ -91,12 +92,12 @@ module _ (room : Room) (r : Reached) (s : Section) where
   plain off says.Misplaced e = silent
   plain off says.NoGrid e = silent
 
-  spoken : completes (r .order) (s .number) ≡ true → r .lines < room .lines → Halting room r (lineOf (r .force) (place 0) ∷ [])
+  spoken : completes (r .order) (s .number) ≡ true → r .lines < room .lines → Halting room r (lineOf (r .force) GoesOn ∷ [])
   unfolding lineOf
   spoken goes line = record { held = λ h. omega arith; told = oneLine (completes-only (r .order) (s .number) goes .0) refl }
 
   going : completes (r .order) (s .number) ≡ true → r .lines < room .lines → (j : Judged) → judged SubmessageStart (s .number) ≡ j
-      → P (byOrder j room (goneOn r) s (lineOf (r .force) (place 0) ∷ []))
+      → P (byOrder j room (goneOn r) s (lineOf (r .force) GoesOn ∷ []))
   unfolding byOrder fitted closing judgement lineOf
   going goes line (says.Fits next) e =
       by-test P (leb (room .rows) (r .sections)) (λ f. spoken goes line) λ f.

@@ -21,6 +21,7 @@ use Rattle.order.specs.declared.Judged.{Judged}
 use Rattle.order.specs.declared.Judged.the-variants as says
 use Rattle.order.proofs.Laws.{closes-only}
 use Rattle.index.specs.Lines.{place, lineOf}
+use Rattle.index.specs.declared.line.MessageEnd.the-variants.{GoesOn, ClosedAt}
 use Rattle.index.specs.declared.line.Line.{Line}
 use Rattle.index.specs.declared.refusal.Refusal.{Refusal}
 use Rattle.index.specs.declared.refusal.Refusal.the-variants as refusal
@@ -88,18 +89,18 @@ module _ (room wide : Room) (r : Reached) (s : Section) (rows : r .sections < wi
   plain (says.Fits next) = rw (lt-leb (wide .rows) (r .sections) rows) (by-rows room r [] [] refl same)
   plain says.Closes =
       rw (lt-leb (wide .rows) (r .sections) rows, lt-leb (wide .lines) (r .lines) lines)
-      (by-rows room r [] (lineOf (r .force) (place (r .sections)) ∷ []) refl (by-lines room r _ (λ held. let h = held .1 in omega arith) same))
+      (by-rows room r [] (lineOf (r .force) (ClosedAt (place (r .sections))) ∷ []) refl (by-lines room r _ (λ held. let h = held .1 in omega arith) same))
   plain says.Misplaced = same
   plain says.NoGrid = same
 
   -- a submessage is complete, and its message goes on
   going : (j : Judged) → judged SubmessageStart (s .number) ≡ j
-      → Beside room r (byOrder j wide (goneOn r) s (lineOf (r .force) (place 0) ∷ []))
+      → Beside room r (byOrder j wide (goneOn r) s (lineOf (r .force) GoesOn ∷ []))
       (pick (leb (room .lines) (r .lines)) (stops [] refusal.SubmessageTableFull)
-      (byOrder j room (goneOn r) s (lineOf (r .force) (place 0) ∷ [])))
+      (byOrder j room (goneOn r) s (lineOf (r .force) GoesOn ∷ [])))
   unfolding byOrder fitted
   going (says.Fits next) e =
-      rw (lt-leb (wide .rows) (r .sections) rows) (by-lines room r _ (λ held. let h = held .1 in omega arith) (by-rows room r (lineOf (r .force) (place 0) ∷ []) [] refl same))
+      rw (lt-leb (wide .rows) (r .sections) rows) (by-lines room r _ (λ held. let h = held .1 in omega arith) (by-rows room r (lineOf (r .force) GoesOn ∷ []) [] refl same))
   going says.Closes e =
       let z = closes-only SubmessageStart (s .number) e .0 in let never : _≡_ {A = ℕ} 0 1 = cc in absurd (omega arith)
   going says.Misplaced e = by-lines room r _ (λ held. omega arith) same
@@ -113,11 +114,11 @@ module _ (room wide : Room) (r : Reached) (s : Section) (rows : r .sections < wi
           → Beside room r
           (pick t
           (pick (leb (wide .lines) (r .lines)) (stops [] refusal.SubmessageTableFull)
-          (byOrder (judged SubmessageStart (s .number)) wide (goneOn r) s (lineOf (r .force) (place 0) ∷ [])))
+          (byOrder (judged SubmessageStart (s .number)) wide (goneOn r) s (lineOf (r .force) GoesOn ∷ [])))
           (byOrder (judged (r .order) (s .number)) wide r s []))
           (pick t
           (pick (leb (room .lines) (r .lines)) (stops [] refusal.SubmessageTableFull)
-          (byOrder (judged SubmessageStart (s .number)) room (goneOn r) s (lineOf (r .force) (place 0) ∷ [])))
+          (byOrder (judged SubmessageStart (s .number)) room (goneOn r) s (lineOf (r .force) GoesOn ∷ [])))
           (byOrder (judged (r .order) (s .number)) room r s []))
       go true = rw (lt-leb (wide .lines) (r .lines) lines) (going (judged SubmessageStart (s .number)) refl)
       go false = plain (judged (r .order) (s .number))
@@ -218,13 +219,13 @@ few-listed (suc count) file at rest = go (readAt file at rest) (few-listed count
     go (read.Refused fault offset) later = omega arith
 
 whole : (room : Room) (file : List ℕ) → length file ≤ 1099511627776
-    → Compared room unlimited (listing file .ending) atStart
-    (walkedFrom room atStart (listing file .sections) (listing file .ending))
-    (walkedFrom unlimited atStart (listing file .sections) (listing file .ending))
+    → Compared room unlimited (listing file .ending) (atStart file)
+    (walkedFrom room (atStart file) (listing file .sections) (listing file .ending))
+    (walkedFrom unlimited (atStart file) (listing file .sections) (listing file .ending))
 unfolding listing
 whole room file short =
     let few = few-listed (length file + 1) file 0 0 in
-    compared room unlimited (listing file .ending) (listing file .sections) atStart (omega arith) (omega arith)
+    compared room unlimited (listing file .ending) (listing file .sections) (atStart file) (omega arith) (omega arith)
 
 pub begins-the-unlimited : BeginsTheUnlimited
 unfolding walked

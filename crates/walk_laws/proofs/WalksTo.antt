@@ -18,7 +18,7 @@ use Rattle.walk_laws.proofs.OneSection.{standOf, Arrives, Judges, goes,
 
 -- it comes to a read at `at` with `rest` octets to come and with `r` reached
 pub data WalksTo (room : Room) (file : List ℕ) : ℕ → ℕ → Reached → Type 0 where
-  fromStart : WalksTo room file 0 0 atStart
+  fromStart : WalksTo room file 0 0 (atStart file)
   stepOn : {at rest closed : ℕ} {r reached : Reached} {s : Section} {cursor : Cursor} {lines : List Line}
       → WalksTo room file at rest r
       → readAt file at rest ≡ read.Section s cursor
@@ -75,7 +75,7 @@ pub record ReachedAt (room : Room) (file : List ℕ) (b : Stand) : Type 0 where
   pub stood : standOf (b .at) (b .rest) reached ≡ b
 
 pub comes-walks-to : {room : Room} {file : List ℕ} {b : Stand} → Comes room file b → ReachedAt room file b
-comes-walks-to started = record { reached = atStart; reaches = fromStart; stood = refl }
+comes-walks-to {file = file} started = record { reached = atStart file; reaches = fromStart; stood = refl }
 comes-walks-to {room} {file} (goesFurther {b} {s} {rest′} before well none) =
     let at = comes-walks-to before in
     let r = at .reached in

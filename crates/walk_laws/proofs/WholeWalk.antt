@@ -70,11 +70,11 @@ on-next room file at rest r =
     go (read.Refused fault offset) = refl
 
 -- a file that is not too long is walked from its start on
-pub walked-on : (room : Room) (file : List ℕ) → length file ≤ 1099511627776 → walked room file ≡ on room file 0 0 atStart
+pub walked-on : (room : Room) (file : List ℕ) → length file ≤ 1099511627776 → walked room file ≡ on room file 0 0 (atStart file)
 unfolding walked on
 walked-on room file short =
     rw (le-ltb 1099511627776 (length file) short)
-    (ap (λ (l : list.Listing). walkedFrom room atStart (l .sections) (l .ending)) (listing-is file))
+    (ap (λ (l : list.Listing). walkedFrom room (atStart file) (l .sections) (l .ending)) (listing-is file))
 
 -- the outcome is that from any stand to which the walk comes
 pub walks-to-on : (room : Room) (file : List ℕ) {at rest : ℕ} {r : Reached} → length file ≤ 1099511627776 → WalksTo room file at rest r
@@ -131,7 +131,7 @@ module _ (room : Room) (file : List ℕ) (short : length file ≤ 1099511627776)
   pub walk-ends : Ends (walked room file .outcome)
   walk-ends =
       subst (λ (t : Told). Ends (t .outcome)) (sym (walked-on room file short))
-      (ends-on (suc (length file - 0)) 0 0 atStart (omega arith) fromStart)
+      (ends-on (suc (length file - 0)) 0 0 (atStart file) (omega arith) fromStart)
 
 -- refusals are numbered from 1 on
 pub from-1 : (why : Refusal) → 1 ≤ refusalNumber why

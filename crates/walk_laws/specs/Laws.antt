@@ -6,11 +6,11 @@
 use Prim.Native.Nat.{ℕ, _+_, _≤_}
 use mathlib.Core.Path.{_≡_}
 use mathlib.Core.List.{List, [], _∷_, _++_}
-use mathlib.Core.Logic.{_⊎_}
-use lib.Dec.{eqb}
 use lib.ListN.{length, getD}
-use Rattle.octets.specs.Words.{pick, Not}
+use Rattle.octets.specs.Words.{Not}
 use Rattle.framing.specs.declared.read.Section.{Section}
+use Rattle.index.specs.declared.line.MessageEnd.{MessageEnd}
+use Rattle.index.specs.declared.line.MessageEnd.the-variants.{GoesOn, ClosedAt}
 use Rattle.index.specs.declared.line.Line.{Line}
 use Rattle.index.specs.Numbers.{endOf}
 use Rattle.index.specs.Bounds.{unlimited}
@@ -77,17 +77,24 @@ abbrev pub NoEndAtPlace0 : Type 0
 NoEndAtPlace0 =
     (room : Room) (file : List ℕ) (k : ℕ) → numberAt (walked room file .sections) k ≡ 8 → 1 ≤ k
 
--- a line's end place is 0, where the message goes on, or that of a section 8 told
-abbrev pub EndPlacesAreEnds : Type 0
-EndPlacesAreEnds =
-    (room : Room) (file : List ℕ)
-    → Every (λ line. (line .end .0 ≡ 0)
-    ⊎ (numberAt (walked room file .sections) (line .end .0) ≡ 8)) (walked room file .lines)
+-- behind a line its message goes on, or a section 8 is told that closes it
+abbrev pub EndIsTold : List Section → MessageEnd → Type 0
+EndIsTold told GoesOn = Unit
+EndIsTold told (ClosedAt p) = numberAt told (p .0) ≡ 8
 
--- as many messages are closed as lines have another end place than 0
+abbrev pub EndsAreTold : Type 0
+EndsAreTold =
+    (room : Room) (file : List ℕ)
+    → Every (λ line. EndIsTold (walked room file .sections) (line .end)) (walked room file .lines)
+
+-- as many messages are closed as lines are closed
+abbrev pub closings : MessageEnd → ℕ
+closings GoesOn = 0
+closings (ClosedAt p) = 1
+
 abbrev pub closers : List Line → ℕ
 closers [] = 0
-closers (line ∷ more) = pick (eqb (line .end .0) 0) 0 1 + closers more
+closers (line ∷ more) = closings (line .end) + closers more
 
 abbrev pub MessagesAreClosers : Type 0
 MessagesAreClosers =

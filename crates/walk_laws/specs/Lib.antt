@@ -4,6 +4,7 @@
 -- How much is missing of a file that is cut.
 -- What is so of every walk.
 -- That a message starts with section 0 in every file.
+-- Where the message of a line stands.
 pub mod Samples
 pub mod Rows
 pub mod ExactlyWhen
@@ -12,3 +13,4 @@ pub mod Witnesses
 pub mod Missing
 pub mod Laws
 pub mod Starts
+pub mod Spans

@@ -1,18 +1,21 @@
 -- The samples of 01 ("Sample files"), with the details that 02's Ticket 2 gives to those cut to 84
--- and 81: the starred ones as a single statement over their list, and the others;
+-- and 81, and lines that go on or are closed, with their message's offset and total length, as its
+-- Ticket 7 has them: the starred ones as a single statement over their list, and the others;
 -- proofs/Computed.antt has them by computing.
 use Prim.Native.Nat.{ℕ, _+_}
 use mathlib.Core.Path.{_≡_}
 use mathlib.Core.List.{List, [], _∷_, _++_, map}
 use lib.IntN.{ℤ, pos, negℤ}
-use lib.ListN.{length, take}
+use lib.ListN.{length, take, drop, replicate}
 use Rattle.octets.specs.Signed.{signedOf}
 use Rattle.octets.specs.declared.Signed.{Signed}
 use Rattle.octets.specs.declared.Signed.the-variants.{Number}
 use Rattle.framing.specs.declared.read.Section.{Section}
-use Rattle.index.specs.Lines.{place}
+use Rattle.index.specs.Lines.{place, span}
 use Rattle.index.specs.declared.line.LocalUsePlace.{LocalUsePlace}
 use Rattle.index.specs.declared.line.LocalUsePlace.the-variants.{At, Absent}
+use Rattle.index.specs.declared.line.MessageEnd.{MessageEnd}
+use Rattle.index.specs.declared.line.MessageEnd.the-variants.{GoesOn, ClosedAt}
 use Rattle.index.specs.declared.line.Line.{Line}
 use Rattle.index.specs.Numbers.{endOf}
 use Rattle.index.specs.declared.numbers.End.{End}
@@ -63,9 +66,9 @@ fiveAfter7 = to7 97 ++ sampleSection 5 6 ++ sample8
 abbrev pub longer7 : ℕ → List ℕ
 longer7 total = before7 total ++ sampleSection 7 5 ++ sample8
 
--- a line as it is printed: message, submessage, and nine places
-abbrev pub line : ℕ → ℕ → ℕ → ℕ → LocalUsePlace → ℕ → ℕ → ℕ → ℕ → ℕ → ℕ → Line
-line message submessage zeroth first second third fourth fifth sixth seventh eighth =
+-- a line as it is printed: message, submessage, nine places, the message's offset and total length
+abbrev pub line : ℕ → ℕ → ℕ → ℕ → LocalUsePlace → ℕ → ℕ → ℕ → ℕ → ℕ → MessageEnd → ℕ → ℕ → Line
+line message submessage zeroth first second third fourth fifth sixth seventh eighth offset total =
     record {
       message = message;
       submessage = submessage;
@@ -77,7 +80,8 @@ line message submessage zeroth first second third fourth fifth sixth seventh eig
       representation = place fifth;
       bitmap = place sixth;
       values = place seventh;
-      end = place eighth;
+      end = eighth;
+      span = span (record { 0 = offset }) total;
     }
 
 -- no section 2, and one at a place
@@ -86,6 +90,13 @@ noLocal = Absent
 
 abbrev pub at : ℕ → LocalUsePlace
 at n = At (place n)
+
+-- the message goes on, and a section 8 at a place
+abbrev pub goesOn : MessageEnd
+goesOn = GoesOn
+
+abbrev pub closedAt : ℕ → MessageEnd
+closedAt n = ClosedAt (place n)
 
 -- outcome, place, offset, detail
 abbrev pub end : ℕ → ℕ → ℕ → ℕ → End
@@ -154,12 +165,13 @@ offsets7 = 0 ∷ 16 ∷ 37 ∷ 51 ∷ 60 ∷ 71 ∷ 77 ∷ []
 unfoldable pub starred : List Sample
 starred =
     walks fileA (prints 8 (0 ∷ 16 ∷ 37 ∷ 51 ∷ 60 ∷ 71 ∷ 77 ∷ 82 ∷ [])
-    (line 0 0 0 1 noLocal 2 3 4 5 6 7 ∷ []) 1 (end 0 0 0 0))
+    (line 0 0 0 1 noLocal 2 3 4 5 6 (closedAt 7) 0 86 ∷ []) 1 (end 0 0 0 0))
     ∷ walks twice
     (prints 12 (offsets7 ++ 82 ∷ 91 ∷ 102 ∷ 108 ∷ 113 ∷ [])
-    (line 0 0 0 1 noLocal 2 3 4 5 6 0 ∷ line 0 1 0 1 noLocal 2 7 8 9 10 11 ∷ []) 1
-    (end 0 0 0 0))
-    ∷ walks fiveAfter7 (prints 7 offsets7 (line 0 0 0 1 noLocal 2 3 4 5 6 0 ∷ []) 0 (end 11 7 82 5))
+    (line 0 0 0 1 noLocal 2 3 4 5 6 goesOn 0 117
+    ∷ line 0 1 0 1 noLocal 2 7 8 9 10 (closedAt 11) 0 117 ∷ []) 1 (end 0 0 0 0))
+    ∷ walks fiveAfter7
+    (prints 7 offsets7 (line 0 0 0 1 noLocal 2 3 4 5 6 goesOn 0 97 ∷ []) 0 (end 11 7 82 5))
     ∷ walks (sample0 46 ++ sampleSection 1 16 ++ sampleSection 4 4)
     (prints 2 (0 ∷ 16 ∷ []) [] 0 (end 12 2 37 4))
     ∷ walks [] (prints 0 [] [] 0 (end 0 0 0 0))
@@ -184,8 +196,14 @@ withSection2 =
 abbrev pub inside7 : List ℕ
 inside7 = before7 172 ++ 0 ∷ 0 ∷ 0 ∷ 91 ∷ 7 ∷ fileA ++ sample8
 
+-- a file of ours: a total length of 2^64 less 1, and a section 4 after 7
+abbrev pub largestTotal : List ℕ
+largestTotal = take 8 (sample0 0) ++ replicate 8 255 ++ drop 16 (to7 0) ++ sampleSection 4 4
+
 -- the samples without a star, and those files: no start is looked for inside section 7; section 2
--- stays in force through the new 3, and not into the next message
+-- stays in force through the new 3, and not into the next message, which has its own offset; octets
+-- stand before the first message; a section 0 inside a message that is not closed completes a line
+-- of that message; a total length may be any
 unfoldable pub others : List Sample
 others =
     walks (take 15 fileA) (prints 0 [] [] 0 (end 0 0 0 0))
@@ -193,13 +211,23 @@ others =
     ∷ walks (take 77 fileA) (prints 6 offsets6 [] 0 (end 10 5 71 0))
     ∷ walks (sample0 16 ++ fileA) (prints 1 (0 ∷ []) [] 0 (end 11 1 16 0))
     ∷ walks inside7
-    (prints 8 (offsets7 ++ 168 ∷ []) (line 0 0 0 1 noLocal 2 3 4 5 6 7 ∷ []) 1 (end 0 0 0 0))
+    (prints 8 (offsets7 ++ 168 ∷ []) (line 0 0 0 1 noLocal 2 3 4 5 6 (closedAt 7) 0 172 ∷ []) 1
+    (end 0 0 0 0))
     ∷ walks withSection2
     (prints 22
     (0 ∷ 16 ∷ 37 ∷ 45 ∷ 59 ∷ 68 ∷ 79 ∷ 85 ∷ 90 ∷ 104 ∷ 113 ∷ 124 ∷ 130 ∷ 135 ∷ 142 ∷ 158 ∷ 179 ∷ 193
     ∷ 202 ∷ 213 ∷ 219 ∷ 224 ∷ [])
-    (line 0 0 0 1 (at 2) 3 4 5 6 7 0 ∷ line 0 1 0 1 (at 2) 8 9 10 11 12 13
-    ∷ line 1 0 14 15 noLocal 16 17 18 19 20 21 ∷ []) 2 (end 0 0 0 0))
+    (line 0 0 0 1 (at 2) 3 4 5 6 7 goesOn 0 139
+    ∷ line 0 1 0 1 (at 2) 8 9 10 11 12 (closedAt 13) 0 139
+    ∷ line 1 0 14 15 noLocal 16 17 18 19 20 (closedAt 21) 142 86 ∷ []) 2 (end 0 0 0 0))
+    ∷ walks (97 ∷ 98 ∷ 99 ∷ fiveAfter7)
+    (prints 7 (3 ∷ 19 ∷ 40 ∷ 54 ∷ 63 ∷ 74 ∷ 80 ∷ [])
+    (line 0 0 0 1 noLocal 2 3 4 5 6 goesOn 3 97 ∷ []) 0 (end 11 7 85 5))
+    ∷ walks (to7 82 ++ fileA)
+    (prints 7 offsets7 (line 0 0 0 1 noLocal 2 3 4 5 6 goesOn 0 82 ∷ []) 0 (end 11 7 82 0))
+    ∷ walks largestTotal
+    (prints 8 (offsets7 ++ 82 ∷ [])
+    (line 0 0 0 1 noLocal 2 3 4 5 6 goesOn 0 18446744073709551615 ∷ []) 0 (end 10 7 82 0))
     ∷ is (255 ∷ 255 ∷ 255 ∷ []) (negℤ (pos 8388607))
     ∷ is (127 ∷ 255 ∷ 255 ∷ []) (pos 8388607)
     ∷ []

@@ -10,8 +10,9 @@ use Rattle.framing.specs.declared.read.Section.{Section}
 use Rattle.order.specs.Order.{completes}
 use Rattle.order.specs.declared.Place.{Place}
 use Rattle.order.specs.declared.Order.the-variants.{SubmessageStart}
-use Rattle.index.specs.Lines.{place, lineOf}
-use Rattle.index.specs.Walk.{atStart}
+use Rattle.index.specs.Lines.{place, unlisted, lineOf}
+use Rattle.index.specs.declared.line.MessageEnd.the-variants.{GoesOn, ClosedAt}
+use Rattle.index.specs.declared.line.Span.{Span}
 use Rattle.index.specs.declared.line.Line.{Line}
 use Rattle.index.specs.declared.line.LocalUsePlace.{LocalUsePlace}
 use Rattle.index.specs.declared.refusal.Refusal.{Refusal}
@@ -35,15 +36,16 @@ unbegun =
       lines = 0;
       message = 0;
       submessage = 0;
-      last = atStart .last;
+      last = unlisted;
     }
 
 -- the line of the submessage in hand: its message goes on, or is closed
-abbrev pub openLine : Standing → LocalUsePlace → List Place → Line
-openLine at local places = lineOf (forceIn at local places) (place 0)
+abbrev pub openLine : Standing → Span → LocalUsePlace → List Place → Line
+openLine at span local places = lineOf (forceIn at span local places) GoesOn
 
-abbrev pub closedLine : Standing → LocalUsePlace → List Place → Line
-closedLine at local places = lineOf (forceIn at local places) (place (at .sections))
+abbrev pub closedLine : Standing → Span → LocalUsePlace → List Place → Line
+closedLine at span local places =
+    lineOf (forceIn at span local places) (ClosedAt (place (at .sections)))
 
 -- that line is told, and the message goes on
 abbrev pub toldLine : Standing → Standing
@@ -107,6 +109,6 @@ misplacedAnswer room at s =
 unfoldable pub misplacedLines : Standing → Line → Section → List ℕ → List ℕ
 misplacedLines at l s lines =
     pick (completes (at .reading .order) (s .number))
-    (pick (leb (length lines / 12) (at .lines)) lines
-    (putAt (at .lines * 12) (lineNumbers l) lines))
+    (pick (leb (length lines / 15) (at .lines)) lines
+    (putAt (at .lines * 15) (lineNumbers l) lines))
     lines

@@ -7,6 +7,8 @@ use lib.ListN.{length}
 use Rattle.index.specs.declared.line.Line.{Line}
 use Rattle.index.specs.declared.line.LocalUsePlace.{LocalUsePlace}
 use Rattle.index.specs.declared.line.LocalUsePlace.the-variants.{At, Absent}
+use Rattle.index.specs.declared.line.MessageEnd.{MessageEnd}
+use Rattle.index.specs.declared.line.MessageEnd.the-variants.{GoesOn, ClosedAt}
 use Rattle.index.specs.Numbers.{endOf}
 use Rattle.index.specs.Walk.{walked}
 use Rattle.standing.specs.Tables.{roomOf, rowsOf, storedOver}
@@ -24,12 +26,24 @@ unfoldable pub localPlace : LocalUsePlace → ℕ
 localPlace (At place) = place .0
 localPlace Absent = 0
 
--- a line is twelve numbers: message, submessage, whether there is a section 2, nine places
+-- 1 or 0 for whether the message is closed
+unfoldable pub isClosed : MessageEnd → ℕ
+isClosed GoesOn = 0
+isClosed (ClosedAt place) = 1
+
+-- the place of its section 8; where it goes on the number is 0 and says nothing
+unfoldable pub endPlace : MessageEnd → ℕ
+endPlace GoesOn = 0
+endPlace (ClosedAt place) = place .0
+
+-- a line is fifteen numbers: message, submessage, whether there is a section 2, whether the message
+-- is closed, nine places, the message's octet offset and total length
 unfoldable pub lineNumbers : Line → List ℕ
 lineNumbers l =
     l .message
     ∷ l .submessage
     ∷ hasLocal (l .local)
+    ∷ isClosed (l .end)
     ∷ l .indicator .0
     ∷ l .identification .0
     ∷ localPlace (l .local)
@@ -38,7 +52,9 @@ lineNumbers l =
     ∷ l .representation .0
     ∷ l .bitmap .0
     ∷ l .values .0
-    ∷ l .end .0
+    ∷ endPlace (l .end)
+    ∷ l .span .offset .0
+    ∷ l .span .total
     ∷ []
 
 -- the numbers of all lines, in order
@@ -67,10 +83,10 @@ pub record TabledNumbers : Type 0 where
   pub rows : List ℕ
   pub lines : List ℕ
 
--- the walk of a file with lent tables: room for a line is twelve numbers, and a remainder is none
+-- the walk of a file with lent tables: room for a line is fifteen numbers, and a remainder is none
 unfoldable pub walkNumbers : List ℕ → List ℕ → List ℕ → TabledNumbers
 walkNumbers file rows lines =
-    let told = walked (roomOf (length rows) (length lines / 12)) file in
+    let told = walked (roomOf (length rows) (length lines / 15)) file in
     record {
       answer = sevenOf (answerOf told);
       rows = storedOver (rowsOf (told .sections)) rows;

@@ -3,13 +3,17 @@
 ghost use mathlib.Core.Path.{_≡_};
 ghost use Prim.Native.Nat.{_<_};
 ghost use Rattle.order.specs.Order.{completes};
+ghost use Rattle.index.specs.Lines.{opened};
 ghost use Rattle.walk_numbers.specs.Moves.{unbegun, openLine, closedLine};
 ghost use Rattle.walk_numbers.specs.Moves.{toldLine, closedBoth};
+use framing::Offset;
 use framing::Section;
 use index::Force;
 use index::Line;
 use index::Listed;
 use index::LocalUsePlace;
+use index::MessageEnd;
+use index::Span;
 use index::line_of;
 use index::unlisted;
 use order::Order;
@@ -19,6 +23,16 @@ use reading::Reading;
 use reading::start;
 use standing::KEPT;
 use standing::Standing;
+
+// Where a message stands, before its section 0 says it.
+pub(crate) fn unstated() -> Span
+    ensures { λ r. ⌜ r ≡ opened 0 .span ⌝ }
+{
+    Span {
+        offset: Offset(0),
+        total: 0,
+    }
+}
 
 // Before the first section.
 pub(crate) fn unbegun() -> Standing
@@ -44,29 +58,41 @@ pub(crate) fn completes(at: Standing, section: Section) -> bool
 }
 
 // The line of the submessage in hand, whose message goes on ..
-pub(crate) fn open_line(at: Standing, local: LocalUsePlace, places: [Place; KEPT]) -> Line
-    ensures { λ r. ⌜ r ≡ openLine at local places ⌝ }
+pub(crate) fn open_line(
+    at: Standing,
+    span: Span,
+    local: LocalUsePlace,
+    places: [Place; KEPT],
+) -> Line
+    ensures { λ r. ⌜ r ≡ openLine at span local places ⌝ }
 {
     let force = Force {
         message: at.message,
         submessage: at.submessage,
+        span,
         local,
         places,
     };
-    line_of(force, Place(0))
+    line_of(force, MessageEnd::GoesOn)
 }
 
 // .. or is closed by the section that is looked at.
-pub(crate) fn closed_line(at: Standing, local: LocalUsePlace, places: [Place; KEPT]) -> Line
-    ensures { λ r. ⌜ r ≡ closedLine at local places ⌝ }
+pub(crate) fn closed_line(
+    at: Standing,
+    span: Span,
+    local: LocalUsePlace,
+    places: [Place; KEPT],
+) -> Line
+    ensures { λ r. ⌜ r ≡ closedLine at span local places ⌝ }
 {
     let force = Force {
         message: at.message,
         submessage: at.submessage,
+        span,
         local,
         places,
     };
-    line_of(force, Place(at.sections))
+    line_of(force, MessageEnd::ClosedAt(Place(at.sections)))
 }
 
 // The line of the submessage in hand is told, and its message goes on.

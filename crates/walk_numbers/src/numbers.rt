@@ -6,14 +6,15 @@ ghost use Rattle.standing.specs.Tables.{roomOf};
 ghost use Rattle.walk_numbers.specs.Numbers.{walkNumbers};
 ghost use Rattle.walk_numbers.specs.Moves.{endedAt, refusedHere, overAt, unreadableAt};
 ghost use Rattle.walk_numbers.specs.Moves.{longAnswer, misplacedAnswer, misplacedLines};
+use crate::columns::LINE;
+use crate::columns::put_line;
 use crate::moves::closed_both;
 use crate::moves::closed_line;
 use crate::moves::completes;
 use crate::moves::open_line;
 use crate::moves::told_line;
 use crate::moves::unbegun;
-use crate::twelve::LINE;
-use crate::twelve::put_line;
+use crate::moves::unstated;
 use framing::Fault;
 use framing::Offset;
 use framing::Section;
@@ -33,6 +34,7 @@ use standing::ROW;
 use standing::Standing;
 use standing::passed_row;
 use standing::put_row;
+use standing::span_after;
 
 // How many lines stand in each table, how many messages were closed, and how the walk ended.
 #[repr(C)]
@@ -48,7 +50,7 @@ pub struct WalkAnswer {
 
 // Room for so many rows and lines; numbers left over are no room.
 fn room_in(rows: usize, lines: usize) -> Room
-    ensures { λ r. ⌜ r ≡ roomOf rows (lines / 12) ⌝ }
+    ensures { λ r. ⌜ r ≡ roomOf rows (lines / 15) ⌝ }
 {
     Room {
         rows: (rows / ROW) as u64,
@@ -83,7 +85,7 @@ fn refused(at: Standing, why: Refusal, section: Section) -> WalkAnswer
 // 11, at a stray section, behind the line of the submessage that it completes: 14 goes before.
 fn misplaced(lines: &mut [u64], at: Standing, line: Line, stray: Section) -> WalkAnswer
     requires { ⌜ at .submessage ≤ at .lines ⌝ }
-    ensures answer { λ r. ⌜ r ≡ misplacedAnswer (length (now (lines .entry)) / 12) at stray ⌝ }
+    ensures answer { λ r. ⌜ r ≡ misplacedAnswer (length (now (lines .entry)) / 15) at stray ⌝ }
     ensures lines { λ _. ⌜ lines .exit .now ≡ misplacedLines at line stray (lines .entry .now) ⌝ }
 {
     let why = Refusal::Misplaced(stray.number);
@@ -129,7 +131,7 @@ fn too_long() -> WalkAnswer
     )
 }
 
-// Walks a file. The tables are lent as numbers, three to a section's row and twelve to a line; what
+// Walks a file. The tables are lent as numbers, three to a section's row and fifteen to a line; what
 // is left over is no room. Lines that were stored before a refusal stand, and room beyond the
 // counts is untouched.
 pub fn walk_numbers(file: &[u8], rows: &mut [u64], lines: &mut [u64]) -> WalkAnswer
@@ -145,6 +147,7 @@ pub fn walk_numbers(file: &[u8], rows: &mut [u64], lines: &mut [u64]) -> WalkAns
     }
     let room = room_in(rows.len(), lines.len());
     let mut at = unbegun();
+    let mut span = unstated();
     let mut local = LocalUsePlace::Absent;
     let mut places = [Place(0); KEPT];
     loop {
@@ -155,7 +158,7 @@ pub fn walk_numbers(file: &[u8], rows: &mut [u64], lines: &mut [u64]) -> WalkAns
                     if room.lines <= at.lines {
                         return refused(at, Refusal::SubmessageTableFull, section);
                     }
-                    put_line(lines, at.lines, open_line(at, local, places));
+                    put_line(lines, at.lines, open_line(at, span, local, places));
                     at = told_line(at);
                 }
                 if room.rows <= at.sections {
@@ -164,9 +167,13 @@ pub fn walk_numbers(file: &[u8], rows: &mut [u64], lines: &mut [u64]) -> WalkAns
                 put_row(rows, at.sections, section);
                 let here = Place(at.sections);
                 at = passed_row(at, section, next);
-                if section.number == LocalUse::NUMBER {
+                // Of most sections the place is all; only those before section 2 are asked more.
+                if LocalUse::NUMBER < section.number {
+                    places[section.number as usize] = here;
+                } else if section.number == LocalUse::NUMBER {
                     local = LocalUsePlace::At(here);
                 } else {
+                    span = span_after(span, section, next.cursor);
                     places[section.number as usize] = here;
                 }
             }
@@ -178,13 +185,14 @@ pub fn walk_numbers(file: &[u8], rows: &mut [u64], lines: &mut [u64]) -> WalkAns
                     return refused(at, Refusal::SubmessageTableFull, end);
                 }
                 put_row(rows, at.sections, end);
-                put_line(lines, at.lines, closed_line(at, local, places));
+                put_line(lines, at.lines, closed_line(at, span, local, places));
                 at = closed_both(at, end, next);
+                span = unstated();
                 local = LocalUsePlace::Absent;
                 places = [Place(0); KEPT];
             }
             Seen::Misplaced(section) => {
-                let line = open_line(at, local, places);
+                let line = open_line(at, span, local, places);
                 return misplaced(lines, at, line, section);
             }
             Seen::NoGrid(section) => {

@@ -10,7 +10,7 @@ unfolding inForce
 in-force-spec =
     tie.close
     (tie.spec
-    (λ c. simp (eq-eqb _ _ (c .before .if1 .taken)))
+    (λ c. simp (eq-eqb _ _ (c .before .before .if1 .taken)))
     (λ c. search needs)
     (λ c. search needs)
     (λ c. simp (ne-eqb _ _ (c .before .if1 .left), lt-ltb _ _ (c .if2 .taken)))

@@ -74,8 +74,8 @@ is-false : (t : Bool) → Holds (not t) → t ≡ false
 is-false true h = absurd h
 is-false false h = refl
 
--- a line is 96 octets, and the offset of one in the table fits
-offset-fits : (i n : ℕ) → i < n → n * 96 < 2 ^ 63 → i * 96 < 2 ^ 64
+-- a line is 120 octets, and the offset of one in the table fits
+offset-fits : (i n : ℕ) → i < n → n * 120 < 2 ^ 63 → i * 120 < 2 ^ 64
 offset-fits i n within room = omega arith
 
 module _ {M : Type 1} (𝓤 : URA M) (H : Heap 𝓤) (A : Atoms 𝓤) (W : Given 𝓤 H A) (mem : Memory → SProp 𝓤) (run : Routine → Fun 𝓤)
@@ -186,7 +186,7 @@ module _ {M : Type 1} (𝓤 : URA M) (H : Heap 𝓤) (A : Atoms 𝓤) (W : Given
         (bin ! (load ! (from ! (fld ! refl (stop !))) (look-in ! 19 (sub ! 0 refl (whole !))))
         (load ! (from ! (stop !)) (look ! 5 refl)) tt)
         (from ! (stop !)) (init ! 3 refl (tt, tt)) $
-        rewrite ! 3 (λ (p : ℕ). ‵ (fat fullShare tyPtr l₉ 0 (vptr b p))) (sym (place-is 96 o slot)) refl $
+        rewrite ! 3 (λ (p : ℕ). ‵ (fat fullShare tyPtr l₉ 0 (vptr b p))) (sym (place-is 120 o slot)) refl $
         opens-slice ! tt T.the-row lines b o $
         elem-out ! T.the-row (Is T.the-row) (shows 𝓤 H A T.the-row) (LL.vals T.the-type T′.the-laws)
         (LL.tells T.the-type T′.the-laws) fullShare lines slot line b o within (λ _.

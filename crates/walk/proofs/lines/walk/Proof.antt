@@ -55,6 +55,7 @@ use Rattle.index.proofs.line.Line as T
 use Rattle.walk.specs.declared.tally.Tally.{Tally}
 use Rattle.walk.proofs.tally.Tally as S
 use Rattle.walk.proofs.tally.Tally.Laws as S′
+use Rattle.standing.specs.Standing.{IsOctets}
 use Rattle.walk.specs.Turns.{linesAfter, stepOf, begunOf, concludedOf}
 use Rattle.walk.proofs.Lists.{same-length}
 use Rattle.walk.proofs.Turns.{Held, Ran, ran, begun, stepped, leftOf, falls}
@@ -405,8 +406,8 @@ module _ {M : Type 1} (𝓤 : URA M) (H : Heap 𝓤) (A : Atoms 𝓤) (W : Given
         use1 W (raw (C #begin (v₀ ∷ []) After₀)) (B.begins 𝓤 H A W mem run κ₀ q₀ file v₀ C fm known-begin) $
         calls-from ! fm (raw (C #begin (v₀ ∷ []) After₀)) (v₀ ∷ []) After₀ (id⊢ 𝓤 _)
         (and-then ! (load ! (from ! (stop !)) (look ! 21 refl)) (no-more !)) (λ r.
-        use1 W (later (given ((r ≡ tallyVal w₀) × TallyIs w₀) (raw Has₀))) (id⊢ 𝓤 _) $ await ! tt $ learn ! (λ got.
-        land ! (from ! (stop !)) (init ! 13 refl (typed w₀ r (got .1) (got .0))) $
+        use1 W (later (given ((r ≡ tallyVal w₀) × (TallyIs w₀ × IsOctets (file .now))) (raw Has₀))) (id⊢ 𝓤 _) $ await ! tt $ learn ! (λ got.
+        land ! (from ! (stop !)) (init ! 13 refl (typed w₀ r (got .1 .0) (got .0))) $
         rewrite ! 13 (λ (u : Val). ‵ (fat fullShare S′.mir l₅ 0 u)) (got .0) refl $
         use1 W (File ⊛ ‵ (flft κ₀ q₀)) (id⊢ 𝓤 _) $ split ! $ move ! (0 ∷ 1 ∷ 26 ∷ 27 ∷ []) $ use4 W (raw (Has₁ rows)) (id⊢ 𝓤 _) $
         move ! (0 ∷ 25 ∷ []) $ first ! $ blocks ! $
@@ -416,10 +417,10 @@ module _ {M : Type 1} (𝓤 : URA M) (H : Heap 𝓤) (A : Atoms 𝓤) (W : Given
           tally = w₀;
           rows = rows;
           lines = lines;
-          tally-is = got .1;
+          tally-is = got .1 .0;
           len₁ = refl;
           len₂ = refl;
-          held = begun (file .now) rows lines;
+          held = begun (file .now) rows lines (got .1 .1);
         })))))))))))))))
 
 module _ {M : Type 1} (𝓤 : URA M) (H : Heap 𝓤) (A : Atoms 𝓤) (W : Given 𝓤 H A) (mem : Memory → SProp 𝓤) (run : Routine → Fun 𝓤)

@@ -80,7 +80,7 @@ with-front room xs e =
 fits-64 : (n : ℕ) → n ≤ 512 → n < 2 ^ 64
 fits-64 n l = omega (arith, l)
 
-fits-63 : (n : ℕ) → n ≤ 512 → n * 96 < 2 ^ 63
+fits-63 : (n : ℕ) → n ≤ 512 → n * 120 < 2 ^ 63
 fits-63 n l = omega (arith, l)
 
 pub front-room : (room : ℕ) → Room T.the-row (length (front room))

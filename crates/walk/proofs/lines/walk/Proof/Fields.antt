@@ -42,16 +42,16 @@ state-is : ty 5 ≡ tallyTy
 state-is = refl
 
 -- where the fields lie in the local
-pub due-at : fieldOf (ty 5) 6 ≡ some (tyBool, 169)
+pub due-at : fieldOf (ty 5) 6 ≡ some (tyBool, 185)
 due-at = refl
 
-pub slot-at : fieldOf (ty 5) 7 ≡ some (tyInt w64, 176)
+pub slot-at : fieldOf (ty 5) 7 ≡ some (tyInt w64, 192)
 slot-at = refl
 
-pub line-at : fieldOf (ty 5) 8 ≡ some (lineTy, 184)
+pub line-at : fieldOf (ty 5) 8 ≡ some (lineTy, 200)
 line-at = refl
 
-pub going-at : fieldOf (ty 5) 9 ≡ some (tyBool, 280)
+pub going-at : fieldOf (ty 5) 9 ≡ some (tyBool, 320)
 going-at = refl
 
 -- the machine values of a struct's fields
@@ -78,14 +78,14 @@ module _ {M : Type 1} {𝓤 : URA M} {H : Heap 𝓤} {A : Atoms 𝓤} {K : Type 
         (field-in t n k d S.the-type S′.the-laws w
         (subst (λ (σ : Ty). nth 𝓤 H A n Γ ≡ ‵ (fat fullShare σ b 0 (LL.val S.the-type S′.the-laws w))) state-is here) at)
 
-    pub due-in : Reads K W Γ tyBool b 169 (vbool (w .due))
-    due-in = state-in 6 169 refl refl
+    pub due-in : Reads K W Γ tyBool b 185 (vbool (w .due))
+    due-in = state-in 6 185 refl refl
 
-    pub slot-in : Reads K W Γ (tyInt w64) b 176 (vint w64 (w .slot))
-    slot-in = state-in 7 176 refl refl
+    pub slot-in : Reads K W Γ (tyInt w64) b 192 (vint w64 (w .slot))
+    slot-in = state-in 7 192 refl refl
 
-    pub line-in : Reads K W Γ lineTy b 184 (lineVal (w .line))
-    line-in = state-in 8 184 refl refl
+    pub line-in : Reads K W Γ lineTy b 200 (lineVal (w .line))
+    line-in = state-in 8 200 refl refl
 
-    pub going-in : Reads K W Γ tyBool b 280 (vbool (w .going))
-    going-in = state-in 9 280 refl refl
+    pub going-in : Reads K W Γ tyBool b 320 (vbool (w .going))
+    going-in = state-in 9 320 refl refl

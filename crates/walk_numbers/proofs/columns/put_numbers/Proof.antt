@@ -9,14 +9,14 @@ use lib.Seq.{length-take-le, take-suc, take-all}
 use borrow.Author.Needs.{needs}
 use Rattle.standing.proofs.Put.{put-none, put-more, put-one, put-length}
 use Rattle.standing.specs.Put.{putAt}
-use Rattle.walk_numbers.proofs.twelve.put_numbers.Statement.{statement}
-use Rattle.walk_numbers.proofs.twelve.put_numbers.Tie as tie
+use Rattle.walk_numbers.proofs.columns.put_numbers.Statement.{statement}
+use Rattle.walk_numbers.proofs.columns.put_numbers.Tie as tie
 
 record Stored (before : List ℕ) (at : ℕ) (numbers table : List ℕ) (i : ℕ) : Type 0 where
-  within : i ≤ 12
+  within : i ≤ 15
   same : table ≡ putAt at (take i numbers) before
 
-module _ {before : List ℕ} {at : ℕ} {numbers table : List ℕ} {i : ℕ} (room : at + 12 ≤ length before) (twelve : length numbers ≡ 12)
+module _ {before : List ℕ} {at : ℕ} {numbers table : List ℕ} {i : ℕ} (room : at + 15 ≤ length before) (fifteen : length numbers ≡ 15)
     (stored : Stored before at numbers table i) where
   fits : at + length (take i numbers) ≤ length before
   fits = rw (length-take-le i numbers (omega (arith, stored .within))) (omega (arith, stored .within))
@@ -25,7 +25,7 @@ module _ {before : List ℕ} {at : ℕ} {numbers table : List ℕ} {i : ℕ} (ro
   long = ap (λ (l : List ℕ). length l) (stored .same) ∙ put-length at (take i numbers) before fits
 
   -- one number more
-  more : i < 12 → Stored before at numbers (set table (at + i) (getD numbers i 0)) (i + 1)
+  more : i < 15 → Stored before at numbers (set table (at + i) (getD numbers i 0)) (i + 1)
   more h =
       let x = getD numbers i 0 in
       let longer : take i numbers ++ (x ∷ []) ≡ take (i + 1) numbers = rw add-one (sym (take-suc numbers i 0 (omega arith))) in
@@ -40,14 +40,14 @@ module _ {before : List ℕ} {at : ℕ} {numbers table : List ℕ} {i : ℕ} (ro
             ∙ ap (λ (l : List ℕ). putAt at l before) longer;
       }
 
-  all : 12 ≤ i → table ≡ putAt at numbers before
+  all : 15 ≤ i → table ≡ putAt at numbers before
   all h = stored .same ∙ ap (λ (l : List ℕ). putAt at l before) (take-all i numbers (omega arith))
 
 abbrev Inv-loop : tie.InvT-loop
 Inv-loop table₀ at numbers i₀ table i = Stored table₀ at numbers table i
 
 abbrev μ-loop : tie.MeasureT-loop
-μ-loop table₀ at numbers i₀ table i = 12 - i
+μ-loop table₀ at numbers i₀ table i = 15 - i
 
 pub put-numbers-spec : {M : Type 1} → statement M
 put-numbers-spec =

@@ -1,8 +1,8 @@
 -- `has_local` meets its contract: there is a section 2, or there is none.
 use borrow.Author.Needs.{needs}
 use Rattle.walk_numbers.specs.Numbers.{hasLocal}
-use Rattle.walk_numbers.proofs.twelve.has_local.Statement.{statement}
-use Rattle.walk_numbers.proofs.twelve.has_local.Tie as tie
+use Rattle.walk_numbers.proofs.columns.has_local.Statement.{statement}
+use Rattle.walk_numbers.proofs.columns.has_local.Tie as tie
 
 pub has-local-spec : {M : Type 1} → statement M
 unfolding hasLocal

@@ -1,8 +1,8 @@
 -- `put_line` meets its contract: the line's numbers are stored.
 use mathlib.Core.Path.{_∙_}
 use borrow.Author.Needs.{needs}
-use Rattle.walk_numbers.proofs.twelve.put_line.Statement.{statement}
-use Rattle.walk_numbers.proofs.twelve.put_line.Tie as tie
+use Rattle.walk_numbers.proofs.columns.put_line.Statement.{statement}
+use Rattle.walk_numbers.proofs.columns.put_line.Tie as tie
 
 returns : tie.Need-returns
 returns c = let put = c .before .before in put .put-numbers .ensures ∙ rw (put .before .line-numbers .ensures)
