@@ -60,9 +60,9 @@ $(BUILD)/%.o: cli/%.c $(HEADERS) Makefile | setup
 $(BUILD)/buttresk: $(OBJECTS) $(ARCHIVE)
 	$(CC) -pthread $(CFLAGS) $(LDFLAGS) -o $@ $(OBJECTS) $(ARCHIVE)
 
-$(BUILD)/cface: tests/cface.c $(HEADER) $(ARCHIVE) | setup
+$(BUILD)/cface: tests/command/cface.c $(HEADER) $(ARCHIVE) | setup
 	@mkdir -p $(BUILD)
-	$(CC) $(STRICT) $(CFLAGS) $(LDFLAGS) -o $@ tests/cface.c $(ARCHIVE)
+	$(CC) $(STRICT) $(CFLAGS) $(LDFLAGS) -o $@ tests/command/cface.c $(ARCHIVE)
 
 # For the tests alone. Where the compiler has no sanitizers, or an emulator would have to run them, the tests say so.
 SANITIZED = $(if $(RUN),,$(BUILD)/buttresk-sanitized)
@@ -80,7 +80,7 @@ test:
 	@$(SETUP) --install python3
 	@$(AGAIN) all $(BUILD)/cface $(SANITIZED)
 	$(RUN) $(BUILD)/cface
-	CC="$(CC)" RUN="$(RUN)" tests/command $(BUILD)/buttresk
+	CC="$(CC)" RUN="$(RUN)" tests/command/run.py $(BUILD)/buttresk
 
 install: all
 	install -d $(DESTDIR)$(PREFIX)/bin $(DESTDIR)$(PREFIX)/include $(DESTDIR)$(PREFIX)/lib $(DESTDIR)$(PREFIX)/share/man/man1

@@ -1,20 +1,23 @@
 /*
- * Counts the instructions that an x86-64 program runs: a plugin of the emulator qemu-user, on any processor that it runs on.
+ * Counts the instructions that an x86-64 program runs: a plugin of the emulator qemu-user, on any
+ * processor that it runs on.
  *
  *     cc -shared -fPIC -O2 -o count.so count.c
  *     qemu-x86_64 -cpu qemu64 -plugin ./count.so,out=FILE[,until=write] PROGRAM WORDS
  *
- * FILE then has `instructions N`, `steps N`, and a line `in N FUNCTION` for each function that has a symbol. A repeated string instruction
- * (rep movsb and its like) is one instruction, as a processor counts it; the emulator goes through it octet by octet, and `steps` has
- * what that adds. The counts are the same in every run. With `until=write` they are those up to the program's first `write`, and that call
- * with them; if it makes none, of all.
+ * FILE then has `instructions N`, `steps N`, and a line `in N FUNCTION` for each function that has
+ * a symbol. A repeated string instruction (rep movsb and its like) is one instruction, as a
+ * processor counts it; the emulator goes through it octet by octet, and `steps` has what that adds.
+ * The counts are the same in every run. With `until=write` they are those up to the program's first
+ * `write`, and that call with them; if it makes none, of all.
  */
 #include <stdint.h>
 #include <stdio.h>
 #include <stdlib.h>
 #include <string.h>
 
-/* What is used of qemu's plugin interface, version 1 (tried with qemu 7.2). Debian 12 has no package with its header. */
+/* What is used of qemu's plugin interface, version 1 (tried with qemu 7.2). Debian 12 has no
+ * package with its header. */
 typedef uint64_t qemu_plugin_id_t;
 struct qemu_plugin_tb;
 struct qemu_plugin_insn;
@@ -22,7 +25,8 @@ enum { VERSION = 1, NO_REGISTERS = 0, ADD = 0 };
 typedef void (*translated_fn)(qemu_plugin_id_t, struct qemu_plugin_tb *);
 typedef void (*executed_fn)(unsigned, void *);
 typedef void (*exit_fn)(qemu_plugin_id_t, void *);
-typedef void (*called_fn)(qemu_plugin_id_t, unsigned, int64_t, uint64_t, uint64_t, uint64_t, uint64_t, uint64_t, uint64_t, uint64_t, uint64_t);
+typedef void (*called_fn)(qemu_plugin_id_t, unsigned, int64_t, uint64_t, uint64_t, uint64_t,
+                          uint64_t, uint64_t, uint64_t, uint64_t, uint64_t);
 void qemu_plugin_register_vcpu_tb_trans_cb(qemu_plugin_id_t, translated_fn);
 void qemu_plugin_register_vcpu_insn_exec_inline(struct qemu_plugin_insn *, int, void *, uint64_t);
 void qemu_plugin_register_vcpu_insn_exec_cb(struct qemu_plugin_insn *, executed_fn, int, void *);
@@ -78,15 +82,18 @@ static int is_repeated(const struct qemu_plugin_insn *insn)
     size_t size = qemu_plugin_insn_size(insn), i = 0;
     int repeats = 0;
     /* operand size, both repeats, REX: what may stand before the opcode here */
-    while (i + 1 < size && (octets[i] == 0x66 || (octets[i] & 0xfe) == 0xf2 || (octets[i] & 0xf0) == 0x40)) {
+    while (i + 1 < size &&
+           (octets[i] == 0x66 || (octets[i] & 0xfe) == 0xf2 || (octets[i] & 0xf0) == 0x40)) {
         repeats |= (octets[i] & 0xfe) == 0xf2;
         i++;
     }
     uint8_t opcode = octets[i];
-    return repeats && ((opcode >= 0x6c && opcode <= 0x6f) || (opcode >= 0xa4 && opcode <= 0xaf && (opcode & 0xfe) != 0xa8));
+    return repeats && ((opcode >= 0x6c && opcode <= 0x6f) ||
+                       (opcode >= 0xa4 && opcode <= 0xaf && (opcode & 0xfe) != 0xa8));
 }
 
-/* The emulator comes to a repeated instruction once for each step, with nothing else of its function run in between. */
+/* The emulator comes to a repeated instruction once for each step, with nothing else of its
+ * function run in between. */
 static void repeated(unsigned cpu, void *of)
 {
     static struct function *last;
@@ -101,7 +108,8 @@ static void repeated(unsigned cpu, void *of)
     at = ++function->count;
 }
 
-/* Each instruction by itself: the size that qemu 7.2 tells of a block is one too many where its last instruction lies across two pages. */
+/* Each instruction by itself: the size that qemu 7.2 tells of a block is one too many where its
+ * last instruction lies across two pages. */
 static void translated(qemu_plugin_id_t id, struct qemu_plugin_tb *block)
 {
     size_t size = qemu_plugin_tb_n_insns(block);
@@ -128,7 +136,8 @@ static void tell(void)
     for (size_t i = 0; i < known; i++) {
         instructions += functions[i].count;
     }
-    fprintf(out, "instructions %llu\nsteps %llu\n", (unsigned long long)instructions, (unsigned long long)steps);
+    fprintf(out, "instructions %llu\nsteps %llu\n", (unsigned long long)instructions,
+            (unsigned long long)steps);
     for (size_t i = 0; i < known; i++) {
         if (functions[i].count != 0) {
             fprintf(out, "in %llu %s\n", (unsigned long long)functions[i].count, functions[i].name);
@@ -148,8 +157,8 @@ static void at_exit(qemu_plugin_id_t id, void *unused)
     }
 }
 
-static void called(qemu_plugin_id_t id, unsigned cpu, int64_t number, uint64_t a, uint64_t b, uint64_t c, uint64_t d, uint64_t e, uint64_t f,
-                   uint64_t g, uint64_t h)
+static void called(qemu_plugin_id_t id, unsigned cpu, int64_t number, uint64_t a, uint64_t b,
+                   uint64_t c, uint64_t d, uint64_t e, uint64_t f, uint64_t g, uint64_t h)
 {
     (void)id, (void)cpu, (void)a, (void)b, (void)c, (void)d, (void)e, (void)f, (void)g, (void)h;
     if (number == WRITE && !told) {

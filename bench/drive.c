@@ -1,5 +1,6 @@
 /*
- * Does one thing a number of times over a file in memory, so that the cost of once is the difference between two runs.
+ * Does one thing a number of times over a file in memory, so that the cost of once is the
+ * difference between two runs.
  *
  *     PROGRAM FILE TIMES walk      the walk, with tables that hold all
  *     PROGRAM FILE TIMES copy      the public copy
@@ -8,15 +9,16 @@
  *     PROGRAM FILE TIMES memset    as many octets as the file has, set to zero
  *     PROGRAM FILE TIMES memcpy    as many octets as the file has, copied
  *
- * It prints what the tables and the copy hold, to hold programs against each other, and the octets of stack that the work took.
- * With the further word `memory` also the most memory that was resident (KiB) when all that is lent was in place, and at the end: only then,
- * since asking for it takes now more instructions and now fewer.
+ * It prints what the tables and the copy hold, to hold programs against each other, and the octets
+ * of stack that the work took. With the further word `memory` also the most memory that was
+ * resident (KiB) when all that is lent was in place, and at the end: only then, since asking for it
+ * takes now more instructions and now fewer.
  */
+#include "drive.h"
 #include <stdio.h>
 #include <stdlib.h>
 #include <string.h>
 #include <ucontext.h>
-#include "drive.h"
 
 enum { MOST_SECTIONS = 100000, SHORT_FILE = 86, STACK = 1 << 18, UNUSED = 0xa5 };
 
@@ -27,7 +29,8 @@ struct lent {
     struct tables tables;
 };
 
-/* What is to be done, and what came of it; one, since the work is called on a stack of its own and takes no words. */
+/* What is to be done, and what came of it; one, since the work is called on a stack of its own and
+ * takes no words. */
 static struct {
     const char *what;
     long times;
@@ -71,7 +74,8 @@ static void read_file(struct lent *lent, const char *path)
     fclose(in);
 }
 
-/* Tables that none of the files here fills: a section has 4 octets at least, and none has as many sections as are the most. */
+/* Tables that none of the files here fills: a section has 4 octets at least, and none has as many
+ * sections as are the most. */
 static void lend_tables(struct lent *lent)
 {
     size_t most = lent->octets / 4 < MOST_SECTIONS ? lent->octets / 4 : MOST_SECTIONS;
@@ -81,7 +85,8 @@ static void lend_tables(struct lent *lent)
     lent->tables.lines = in_place(lent->tables.line_numbers * sizeof(uint64_t));
 }
 
-/* The most memory that was ever resident, KiB. Not getrusage's: that begins with what the caller of this program had. */
+/* The most memory that was ever resident, KiB. Not getrusage's: that begins with what the caller of
+ * this program had. */
 static long resident(void)
 {
     char line[256];
@@ -168,20 +173,25 @@ static void print_results(void)
     const struct lent *lent = &job.lent;
     const struct walked *w = &job.walked;
     size_t tables = (lent->tables.row_numbers + lent->tables.line_numbers) * sizeof(uint64_t);
-    printf("octets %zu\nlent %zu\noutcome %llu\n", lent->octets, 2 * lent->octets + tables, (unsigned long long)job.outcome);
-    printf("sections %llu\nsubmessages %llu\nmessages %llu\n", (unsigned long long)w->sections, (unsigned long long)w->submessages,
-           (unsigned long long)w->messages);
+    printf("octets %zu\nlent %zu\noutcome %llu\n", lent->octets, 2 * lent->octets + tables,
+           (unsigned long long)job.outcome);
+    printf("sections %llu\nsubmessages %llu\nmessages %llu\n", (unsigned long long)w->sections,
+           (unsigned long long)w->submessages, (unsigned long long)w->messages);
     printf("rows %016llx\n", sum_of(lent->tables.rows, w->sections * ROW * sizeof(uint64_t)));
     printf("lines %016llx\n", sum_of(lent->tables.lines, w->submessages * LINE * sizeof(uint64_t)));
     printf("dest %016llx\n", sum_of(lent->dest, lent->octets));
-    printf("entries %016llx\n", strcmp(job.what, "list") == 0 ? sum_of(lent->tables.lines, lent->tables.line_numbers * sizeof(uint64_t)) : 0);
+    printf("entries %016llx\n",
+           strcmp(job.what, "list") == 0
+               ? sum_of(lent->tables.lines, lent->tables.line_numbers * sizeof(uint64_t))
+               : 0);
 }
 
 int main(int words, char **word)
 {
     int measured = words == 5 && strcmp(word[4], "memory") == 0;
     if (words != 4 && !measured) {
-        fprintf(stderr, "usage: %s FILE TIMES walk|copy|inventory|list|memset|memcpy [memory]\n", word[0]);
+        fprintf(stderr, "usage: %s FILE TIMES walk|copy|inventory|list|memset|memcpy [memory]\n",
+                word[0]);
         return 2;
     }
     read_file(&job.lent, word[1]);
@@ -189,7 +199,8 @@ int main(int words, char **word)
     lend_tables(&job.lent);
     job.times = atol(word[2]);
     job.what = word[3];
-    /* Whatever is called first, on any file, brings in memory that is not its own: buffers, and an emulator's translated code. */
+    /* Whatever is called first, on any file, brings in memory that is not its own: buffers, and an
+     * emulator's translated code. */
     struct lent beginning = job.lent;
     beginning.octets = job.lent.octets < SHORT_FILE ? job.lent.octets : SHORT_FILE;
     once(&beginning);

@@ -1,4 +1,5 @@
-/* What is measured, behind one face: drive.c is linked with walk.c (Buttresk) or with plain.c (plain C). */
+/* What is measured, behind one face: drive.c is linked with walk.c (Buttresk) or with plain.c
+ * (plain C). */
 #ifndef DRIVE_H
 #define DRIVE_H
 

@@ -1,22 +1,35 @@
 /*
- * The same walk and public copy in plain C, as one would write them by hand: what the proved ones are held against. Places, offsets and
- * details of refusals are left out; all else is judged and stored.
+ * The same walk and public copy in plain C, as one would write them by hand: what the proved ones
+ * are held against. Places, offsets and details of refusals are left out; all else is judged and
+ * stored.
  */
-#include <string.h>
 #include "drive.h"
+#include <string.h>
 
 enum outcome {
-    CLEAN = 0, CUT = 2, OTHER_EDITION = 3, TOTAL_UNDER_16 = 4, NOT_END_MARK = 5, LENGTH_UNDER_5 = 6, UNKNOWN_NUMBER = 7,
-    PAYLOAD_UNDER_LEAST = 8, LONGER_THAN_REST = 9, INPUT_OVER = 10, MISPLACED = 11, NO_GRID = 12, ROWS_FULL = 13, LINES_FULL = 14,
+    CLEAN = 0,
+    CUT = 2,
+    OTHER_EDITION = 3,
+    TOTAL_UNDER_16 = 4,
+    NOT_END_MARK = 5,
+    LENGTH_UNDER_5 = 6,
+    UNKNOWN_NUMBER = 7,
+    PAYLOAD_UNDER_LEAST = 8,
+    LONGER_THAN_REST = 9,
+    INPUT_OVER = 10,
+    MISPLACED = 11,
+    NO_GRID = 12,
+    ROWS_FULL = 13,
+    LINES_FULL = 14,
     READ = 100
 };
 
 struct walk {
     const uint8_t *file;
     size_t octets, at;
-    uint64_t rest;              /* octets left of the message; 0 between messages */
-    unsigned last;              /* number of the section read last; 8 between messages */
-    uint64_t line[LINE];        /* the line of the submessage in hand */
+    uint64_t rest;       /* octets left of the message; 0 between messages */
+    unsigned last;       /* number of the section read last; 8 between messages */
+    uint64_t line[LINE]; /* the line of the submessage in hand */
     struct tables tables;
     uint64_t row_room, line_room;
     struct walked done;
@@ -103,7 +116,9 @@ static int store_line(struct walk *w)
 
 /* Bit n of entry m: can section n come after section m? */
 static const uint16_t can_follow[9] = {
-    1 << 1, 1 << 2 | 1 << 3, 1 << 3, 1 << 4, 1 << 5, 1 << 6, 1 << 7, 1 << 2 | 1 << 3 | 1 << 4 | 1 << 8, 1 << 0,
+    1 << 1, 1 << 2 | 1 << 3, 1 << 3, 1 << 4,
+    1 << 5, 1 << 6,          1 << 7, 1 << 2 | 1 << 3 | 1 << 4 | 1 << 8,
+    1 << 0,
 };
 
 static enum outcome take(struct walk *w, struct section s)
@@ -143,7 +158,9 @@ static enum outcome take(struct walk *w, struct section s)
 static enum outcome step(struct walk *w)
 {
     struct section s = {0};
-    enum outcome o = w->rest == 0 ? read_start(w, &s) : w->rest == 4 ? read_end(w, &s) : read_other(w, &s);
+    enum outcome o = w->rest == 0   ? read_start(w, &s)
+                     : w->rest == 4 ? read_end(w, &s)
+                                    : read_other(w, &s);
     if (o == CLEAN) {
         return w->last == 8 ? CLEAN : INPUT_OVER;
     }
@@ -158,7 +175,11 @@ static enum outcome step(struct walk *w)
 
 struct walked walk_file(const uint8_t *file, size_t octets, struct tables tables)
 {
-    struct walk w = {.file = file, .octets = octets, .last = 8, .tables = tables, .row_room = tables.row_numbers / ROW,
+    struct walk w = {.file = file,
+                     .octets = octets,
+                     .last = 8,
+                     .tables = tables,
+                     .row_room = tables.row_numbers / ROW,
                      .line_room = tables.line_numbers / LINE};
     enum outcome o = READ;
     while (o == READ) {

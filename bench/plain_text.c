@@ -1,6 +1,7 @@
-/* The inventory and the reader of a list by hand, in plain C. Of products it knows templates 0 to 15, all that the files here have. */
-#include <string.h>
+/* The inventory and the reader of a list by hand, in plain C. Of products it knows templates 0 to
+ * 15, all that the files here have. */
 #include "drive.h"
+#include <string.h>
 
 enum outcome { CLEAN = 0, TABLE_FULL = 14, TOO_SMALL = 20, NOT_IN_FORM = 21 };
 
@@ -31,7 +32,8 @@ static uint8_t *put_before(uint8_t *end, struct field f)
     return end;
 }
 
-static void fields_of(const uint8_t *file, const uint64_t *rows, const uint64_t *line, struct field f[9])
+static void fields_of(const uint8_t *file, const uint64_t *rows, const uint64_t *line,
+                      struct field f[9])
 {
     const uint64_t *four = rows + line[PLACES + 4] * ROW;
     const uint8_t *payload = file + four[1] + 5;
@@ -78,7 +80,8 @@ uint64_t list_file(const uint8_t *file, size_t octets, uint8_t *text, struct tab
     return CLEAN;
 }
 
-static const uint64_t most_of[9] = {1ull << 40, 1ull << 40, 1ull << 40, 255, 255, 255, 255, 4294967295, 255};
+static const uint64_t most_of[9] = {1ull << 40, 1ull << 40, 1ull << 40, 255, 255,
+                                    255,        255,        4294967295, 255};
 
 /* Where the field ends; null if it is not in form. */
 static const uint8_t *read_field(const uint8_t *at, const uint8_t *end, int k, struct field *f)
@@ -100,7 +103,8 @@ static const uint8_t *read_field(const uint8_t *at, const uint8_t *end, int k, s
 
 uint64_t read_text(const uint8_t *text, size_t octets, struct tables tables)
 {
-    /* where each field's number stands in an entry; the number before it says whether there is one, from the fifth on */
+    /* where each field's number stands in an entry; the number before it says whether there is one,
+     * from the fifth on */
     static const uint8_t place_of[9] = {0, 1, 2, 3, 5, 7, 9, 10, 12};
     const uint8_t *at = text, *end = text + octets;
     size_t room = tables.line_numbers / ENTRY;

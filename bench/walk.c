@@ -4,8 +4,12 @@
 
 struct walked walk_file(const uint8_t *file, size_t octets, struct tables t)
 {
-    struct buttresk_walk_answer a = buttresk_walk(file, octets, t.rows, t.row_numbers, t.lines, t.line_numbers);
-    return (struct walked){.sections = a.sections, .submessages = a.submessages, .messages = a.messages, .outcome = a.outcome};
+    struct buttresk_walk_answer a =
+        buttresk_walk(file, octets, t.rows, t.row_numbers, t.lines, t.line_numbers);
+    return (struct walked){.sections = a.sections,
+                           .submessages = a.submessages,
+                           .messages = a.messages,
+                           .outcome = a.outcome};
 }
 
 uint64_t copy_file(const uint8_t *file, size_t octets, uint8_t *dest, struct tables t)

@@ -21,10 +21,11 @@ enum { MODE = 0666, TRIES = 100 };
 static uint8_t none[1];
 
 /*
- * Reserved behind the map. The library never leaves what it is lent as long as nobody changes the file that it reads; where another process
- * writes to that file between two looks at it, a section may seem to reach further, by under 2^32 octets. A write there then fails, where
- * guard.h catches it, and never comes to memory of another use. A read that goes astray harms nothing: what comes of it is not put in
- * place.
+ * Reserved behind the map. The library never leaves what it is lent as long as nobody changes the
+ * file that it reads; where another process writes to that file between two looks at it, a section
+ * may seem to reach further, by under 2^32 octets. A write there then fails, where guard.h catches
+ * it, and never comes to memory of another use. A read that goes astray harms nothing: what comes
+ * of it is not put in place.
  */
 static const size_t margin = ((size_t)1 << 32) + ((size_t)1 << 20);
 
@@ -47,7 +48,8 @@ static void on_stop(int number)
     raise(number);
 }
 
-/* A file with a name of its own is not to stay when the copy is interrupted. A signal that is ignored stays ignored. */
+/* A file with a name of its own is not to stay when the copy is interrupted. A signal that is
+ * ignored stays ignored. */
 static void remove_when_stopped(const struct beside *b)
 {
     static const int stops[] = {SIGINT, SIGTERM, SIGHUP};
@@ -156,7 +158,8 @@ static bool has_room(struct beside *b)
 /* The file's octets to be written, or null. */
 static void *map_with_margin(int fd, size_t size)
 {
-    void *room = mmap(NULL, size + margin, PROT_NONE, MAP_PRIVATE | MAP_ANONYMOUS | MAP_NORESERVE, -1, 0);
+    void *room =
+        mmap(NULL, size + margin, PROT_NONE, MAP_PRIVATE | MAP_ANONYMOUS | MAP_NORESERVE, -1, 0);
     if (room == MAP_FAILED) {
         return NULL;
     }
@@ -249,8 +252,9 @@ static int status_of(pid_t child)
 }
 
 /*
- * A file without a name can't be put over another in one call: for an instant it has a name of its own. A child does both calls, out of
- * reach of what is sent to the command or its group, so that a kill of the command at that instant leaves nothing behind either.
+ * A file without a name can't be put over another in one call: for an instant it has a name of its
+ * own. A child does both calls, out of reach of what is sent to the command or its group, so that a
+ * kill of the command at that instant leaves nothing behind either.
  */
 static int replace(const struct beside *b, const char *path)
 {
@@ -287,7 +291,8 @@ static bool is_absent(const struct beside *b)
     return errno == ENOENT;
 }
 
-/* A link is never put over an existing file. Where the file system has no links, the look just before has to do. */
+/* A link is never put over an existing file. Where the file system has no links, the look just
+ * before has to do. */
 static int put_hidden(struct beside *b, bool force)
 {
     if (!force && linkat(b->folder, b->hidden, b->folder, b->base, 0) == 0) {

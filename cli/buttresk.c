@@ -1,5 +1,5 @@
-/* The command `buttresk`: docs/buttresk.1 says all of it. Here are its arguments, and what holds of all it does. */
-#include <errno.h>
+/* The command `buttresk`: docs/buttresk.1 says all of it. Here are its arguments, and what holds of
+ * all it does. */
 #include <fcntl.h>
 #include <signal.h>
 #include <stdbool.h>
@@ -9,6 +9,7 @@
 
 #include "commands.h"
 #include "guard.h"
+#include "out.h"
 
 #define VERSION "0.1.0"
 
@@ -48,27 +49,6 @@ static enum status wrong_usage(const char *reason, const char *word)
     return FAILED;
 }
 
-void print_file_line(const char *name)
-{
-    fputs("file ", stdout);
-    put_name(stdout, name);
-    putchar('\n');
-}
-
-bool output_taken(void)
-{
-    errno = 0;
-    if (fflush(stdout) == 0 && !ferror(stdout)) {
-        return true;
-    }
-    if (errno != 0) {
-        say_system("standard output");
-    } else {
-        say_failed("standard output", "could not be written");
-    }
-    return false;
-}
-
 /* The flag that a word sets; null if it is none. */
 static bool *flag_of(struct request *r, const char *word)
 {
@@ -93,7 +73,8 @@ static void take_word(struct request *r, char *word)
     }
 }
 
-/* Names are gathered at the front of the arguments themselves: there are never more of them than words already read. */
+/* Names are gathered at the front of the arguments themselves: there are never more of them than
+ * words already read. */
 static enum status read_arguments(struct request *r, int argc, char **argv)
 {
     bool options = true;
@@ -122,8 +103,11 @@ enum verb { INDEX, FIELDS, INVENTORY, READ_LIST, COPY, UNKNOWN };
 
 static enum verb verb_of(const char *word)
 {
-    static const char *const verbs[] = {
-        [INDEX] = "index", [FIELDS] = "fields", [INVENTORY] = "inventory", [READ_LIST] = "read-list", [COPY] = "copy"};
+    static const char *const verbs[] = {[INDEX] = "index",
+                                        [FIELDS] = "fields",
+                                        [INVENTORY] = "inventory",
+                                        [READ_LIST] = "read-list",
+                                        [COPY] = "copy"};
     enum verb verb = INDEX;
     while (verb != UNKNOWN && strcmp(verbs[verb], word) != 0) {
         verb++;
@@ -187,8 +171,9 @@ static enum status answer(const struct request *r)
     return output_taken() ? CLEAN : FAILED;
 }
 
-/* A file that is opened is never to stand where standard output or error should: a message would be written into a copy. What was
-   closed is held by a descriptor that can't be used, so that its use fails as it would have. */
+/* A file that is opened is never to stand where standard output or error should: a message would be
+   written into a copy. What was closed is held by a descriptor that can't be used, so that its use
+   fails as it would have. */
 static void hold_standard_descriptors(void)
 {
     for (int fd = 0; fd <= 2; fd++) {
@@ -204,7 +189,8 @@ int main(int argc, char **argv)
     hold_standard_descriptors();
     /* A line that is told is one write, whoever else writes there. */
     setvbuf(stderr, NULL, _IOLBF, BUFSIZ);
-    /* Both are told by the call that fails, with its reason; and a child is waited for, whatever was inherited. */
+    /* Both are told by the call that fails, with its reason; and a child is waited for, whatever
+     * was inherited. */
     signal(SIGPIPE, SIG_IGN);
     signal(SIGXFSZ, SIG_IGN);
     signal(SIGCHLD, SIG_DFL);

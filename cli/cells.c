@@ -15,10 +15,14 @@ struct cell {
 
 /* In the order of the cells. */
 static const char *const names[CELLS] = {
-    "offset", "length", "discipline", "centre", "subcentre", "reference",
-    "product_template", "category", "number", "process", "time_unit", "time",
-    "first_type", "first_factor", "first_value", "second_type", "second_factor", "second_value",
-    "grid_template", "points", "representation_template", "bitmap",
+    "offset",           "length",        "discipline",
+    "centre",           "subcentre",     "reference",
+    "product_template", "category",      "number",
+    "process",          "time_unit",     "time",
+    "first_type",       "first_factor",  "first_value",
+    "second_type",      "second_factor", "second_value",
+    "grid_template",    "points",        "representation_template",
+    "bitmap",
 };
 
 static struct cell unsigned_cell(bool known, uint64_t value)
@@ -39,7 +43,8 @@ static struct cell signed_cell(bool known, int32_t value)
 static struct cell reference_cell(const struct buttresk_identification_fields *f)
 {
     struct cell cell = {.kind = f->known ? TEXT : NONE};
-    snprintf(cell.words, sizeof cell.words, "%04u-%02u-%02uT%02u:%02u:%02u", f->year, f->month, f->day, f->hour, f->minute, f->second);
+    snprintf(cell.words, sizeof cell.words, "%04u-%02u-%02uT%02u:%02u:%02u", f->year, f->month,
+             f->day, f->hour, f->minute, f->second);
     return cell;
 }
 

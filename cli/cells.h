@@ -1,4 +1,5 @@
-/* A submessage's decoded fields as a row of cells, which is printed as a line of a table or as a JSON object. */
+/* A submessage's decoded fields as a row of cells, which is printed as a line of a table or as a
+ * JSON object. */
 #ifndef CELLS_H
 #define CELLS_H
 

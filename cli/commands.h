@@ -1,4 +1,5 @@
-/* What the command does with its files. Each says its own reasons, and answers the status that it comes to. */
+/* What the command does with its files. Each says its own reasons, and answers the status that it
+ * comes to. */
 #ifndef COMMANDS_H
 #define COMMANDS_H
 
@@ -13,11 +14,5 @@ enum status inventory_of_file(const char *name, bool head);
 enum status read_list(const char *name, bool head, bool json);
 
 enum status copy_file(const char *name, const char *dest, bool force);
-
-/* The line that says whose output follows. */
-void print_file_line(const char *name);
-
-/* Whether standard output took all that was printed; says the reason if not. */
-bool output_taken(void);
 
 #endif

@@ -18,7 +18,8 @@ static enum status system_failure(const char *name, int failure)
 static bool is_source(const struct source *source, const char *dest)
 {
     struct stat found;
-    return stat(dest, &found) == 0 && found.st_dev == source->start.st_dev && found.st_ino == source->start.st_ino;
+    return stat(dest, &found) == 0 && found.st_dev == source->start.st_dev &&
+           found.st_ino == source->start.st_ino;
 }
 
 /* A name that is empty or ends in a slash can only be a folder's. */
@@ -56,12 +57,8 @@ struct publishing {
 static void publish(void *with)
 {
     struct publishing *p = with;
-    p->answer = buttresk_publish(p->source->octets, p->source->size, p->beside->octets, p->beside->size);
-}
-
-static enum status say_answer(const char *name, const struct buttresk_store_answer *a)
-{
-    return a->outcome == BUTTRESK_DONE ? CLEAN : say_refused(name, a->outcome, a->place, a->offset, a->detail);
+    p->answer =
+        buttresk_publish(p->source->octets, p->source->size, p->beside->octets, p->beside->size);
 }
 
 static enum status say_fault(const struct publishing *p, const void *fault)
@@ -86,7 +83,7 @@ static enum status publish_watched(struct publishing *p)
         return say_fault(p, fault);
     }
     /* A refusal, too, is only told of a file that is still what it was. */
-    return source_same(p->source) ? say_answer(p->source->name, &p->answer) : FAILED;
+    return source_same(p->source) ? say_end(p->source->name, END_OF(p->answer)) : FAILED;
 }
 
 static enum status sync_watched(struct publishing *p)
@@ -107,11 +104,13 @@ static enum status copy_beside(struct publishing *p, bool force)
     if (status != CLEAN) {
         return status;
     }
-    /* Last of all, so that as little time as can be lies between the look at the file and the copy in place. */
+    /* Last of all, so that as little time as can be lies between the look at the file and the copy
+     * in place. */
     return source_same(p->source) && beside_put(p->beside, force) ? CLEAN : FAILED;
 }
 
-/* Asked before room is asked of the disk: a destination of no octets is refused as too short only after this. */
+/* Asked before room is asked of the disk: a destination of no octets is refused as too short only
+ * after this. */
 static bool is_too_long(const struct source *source, struct buttresk_store_answer *answer)
 {
     uint8_t none[1];
@@ -128,7 +127,7 @@ static enum status copy_source(const struct source *source, const char *dest, bo
         return status;
     }
     if (is_too_long(source, &publishing.answer)) {
-        return say_answer(source->name, &publishing.answer);
+        return say_end(source->name, END_OF(publishing.answer));
     }
     status = beside_open(&beside, dest, source->size) ? copy_beside(&publishing, force) : FAILED;
     beside_close(&beside);

@@ -5,6 +5,7 @@
 #include "cells.h"
 #include "commands.h"
 #include "guard.h"
+#include "out.h"
 #include "source.h"
 #include "tables.h"
 #include "watch.h"
@@ -25,15 +26,17 @@ struct part {
 };
 
 /*
- * A section of the line, without its header. A row of a file that nobody changes during its walk lies inside the file; of one that was
- * changed nothing is promised, so it is not trusted with an address.
+ * A section of the line, without its header. A row of a file that nobody changes during its walk
+ * lies inside the file; of one that was changed nothing is promised, so it is not trusted with an
+ * address.
  */
 static struct part part_of(struct decoding *d, int number, uint64_t header)
 {
     uint64_t place = d->line[PLACES + number];
     if (place < d->tables->answer.sections) {
         struct row row = tables_row(d->tables, place);
-        if (row.length >= header && row.offset <= d->source->size && row.length <= d->source->size - row.offset) {
+        if (row.length >= header && row.offset <= d->source->size &&
+            row.length <= d->source->size - row.offset) {
             return (struct part){d->source->octets + row.offset + header, row.length - header};
         }
     }
@@ -46,7 +49,8 @@ static void decode(void *with)
     struct decoding *d = with;
     struct submessage *s = &d->submessage;
     struct part zero = part_of(d, 0, 0), one = part_of(d, 1, HEADER), three = part_of(d, 3, HEADER);
-    struct part four = part_of(d, 4, HEADER), five = part_of(d, 5, HEADER), six = part_of(d, 6, HEADER);
+    struct part four = part_of(d, 4, HEADER), five = part_of(d, 5, HEADER),
+                six = part_of(d, 6, HEADER);
     s->message = d->line[MESSAGE];
     s->submessage = d->line[SUBMESSAGE];
     s->offset = d->line[OFFSET];
@@ -111,7 +115,8 @@ static bool printed(const struct source *source, const struct tables *tables, bo
     return source_same(source);
 }
 
-static enum status print_fields(const struct source *source, const struct tables *tables, bool head, bool json)
+static enum status print_fields(const struct source *source, const struct tables *tables, bool head,
+                                bool json)
 {
     const struct buttresk_walk_answer *a = &tables->answer;
     if (!json) {
@@ -121,7 +126,7 @@ static enum status print_fields(const struct source *source, const struct tables
     if (!output_taken() || !done) {
         return FAILED;
     }
-    return a->outcome == BUTTRESK_DONE ? CLEAN : say_refused(source->name, a->outcome, a->place, a->offset, a->detail);
+    return say_end(source->name, END_OF(*a));
 }
 
 enum status fields_of_file(const char *name, bool head, bool json)

@@ -4,7 +4,8 @@
 #include <signal.h>
 #include <stddef.h>
 
-/* What the handler needs: where a guarded call is left to, whether there is one, and the address that it failed at. */
+/* What the handler needs: where a guarded call is left to, whether there is one, and the address
+ * that it failed at. */
 static sigjmp_buf landing;
 static volatile sig_atomic_t armed;
 static const void *volatile failed_at;
@@ -13,7 +14,8 @@ static void on_fault(int number, siginfo_t *info, void *context)
 {
     (void)context;
     if (!armed) {
-        /* No call of ours: the access is made again, and ends the command as it would have without a handler. */
+        /* No call of ours: the access is made again, and ends the command as it would have without
+         * a handler. */
         signal(number, SIG_DFL);
         return;
     }

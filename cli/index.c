@@ -3,6 +3,7 @@
 #include <stdio.h>
 
 #include "commands.h"
+#include "out.h"
 #include "source.h"
 #include "tables.h"
 
@@ -30,22 +31,21 @@ static void print_line(const uint64_t *line)
 static void print_index(const struct tables *t)
 {
     const struct buttresk_walk_answer *a = &t->answer;
-    printf("sections %" PRIu64 " submessages %" PRIu64 " messages %" PRIu64 "\n", a->sections, a->submessages, a->messages);
+    printf("sections %" PRIu64 " submessages %" PRIu64 " messages %" PRIu64 "\n", a->sections,
+           a->submessages, a->messages);
     /* an output that is closed takes nothing more */
     for (uint64_t i = 0; i < a->submessages && !ferror(stdout); i++) {
         print_line(tables_line(t, i));
     }
-    printf("end %" PRIu64 " %" PRIu64 " %" PRIu64 " %" PRIu64 "\n", a->outcome, a->place, a->offset, a->detail);
+    printf("end %" PRIu64 " %" PRIu64 " %" PRIu64 " %" PRIu64 "\n", a->outcome, a->place, a->offset,
+           a->detail);
 }
 
-/* Who re-requests a cut file has to know where its rest starts; the detail says how many octets that
-   is at least. */
+/* Who re-requests a cut file has to know where its rest starts; the detail says how many octets
+   that is at least. */
 static enum status say_ended(const struct source *source, const struct buttresk_walk_answer *a)
 {
-    if (a->outcome == BUTTRESK_DONE) {
-        return CLEAN;
-    }
-    enum status status = say_refused(source->name, a->outcome, a->place, a->offset, a->detail);
+    enum status status = say_end(source->name, END_OF(*a));
     if (a->outcome == BUTTRESK_CUT) {
         say_rest_starts(source->name, source->size);
     }

@@ -5,6 +5,7 @@
 #include "buttresk.h"
 #include "commands.h"
 #include "growing.h"
+#include "out.h"
 #include "source.h"
 
 enum { FIRST_ROOM = 32768 }; /* octets: some thousand lines */
@@ -36,12 +37,13 @@ static bool text_fits(const void *with)
     return ((const struct listing *)with)->answer.outcome != BUTTRESK_TEXT_TOO_SMALL;
 }
 
-/* A refused file has no lines, not even the one with its name: no lines behind a name say that a file has no submessage. */
+/* A refused file has no lines, not even the one with its name: no lines behind a name say that a
+ * file has no submessage. */
 static enum status print_listed(const struct listing *l, bool head)
 {
     const struct buttresk_store_answer *a = &l->answer;
     if (a->outcome != BUTTRESK_DONE) {
-        return say_refused(l->source->name, a->outcome, a->place, a->offset, a->detail);
+        return say_end(l->source->name, END_OF(*a));
     }
     if (head) {
         print_file_line(l->source->name);
@@ -55,13 +57,15 @@ static enum status print_listed(const struct listing *l, bool head)
 
 enum status inventory_of_file(const char *name, bool head)
 {
-    static const struct growing growing = {"walking", "there is no memory for its inventory", lend_text, list_lines, text_fits};
+    static const struct growing growing = {"walking", "there is no memory for its inventory",
+                                           lend_text, list_lines, text_fits};
     struct source source;
     struct listing listing = {.source = &source};
     if (!source_open(&source, name)) {
         return FAILED;
     }
-    enum status status = answered(&growing, &listing, &source) ? print_listed(&listing, head) : FAILED;
+    enum status status =
+        answered(&growing, &listing, &source) ? print_listed(&listing, head) : FAILED;
     free(listing.text);
     source_close(&source);
     return status;

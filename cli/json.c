@@ -8,7 +8,8 @@ static bool continues(unsigned char octet)
     return (octet & 0xc0) == 0x80;
 }
 
-/* How many octets the first has after it by its own word; 0 for none that starts a longer character. */
+/* How many octets the first has after it by its own word; 0 for none that starts a longer
+ * character. */
 static int more_octets(unsigned char first)
 {
     if (first >= 0xc2 && first <= 0xdf) {
@@ -23,11 +24,12 @@ static int more_octets(unsigned char first)
 /* Neither a longer spelling than needed, nor a surrogate, nor above 10ffff. */
 static bool second_fits(unsigned char first, unsigned char second)
 {
-    return !(first == 0xe0 && second < 0xa0) && !(first == 0xed && second > 0x9f) && !(first == 0xf0 && second < 0x90) &&
-           !(first == 0xf4 && second > 0x8f);
+    return !(first == 0xe0 && second < 0xa0) && !(first == 0xed && second > 0x9f) &&
+           !(first == 0xf0 && second < 0x90) && !(first == 0xf4 && second > 0x8f);
 }
 
-/* Octets of the character of UTF-8 that starts here; 0 if none does. A 0 octet ends the text and continues nothing. */
+/* Octets of the character of UTF-8 that starts here; 0 if none does. A 0 octet ends the text and
+ * continues nothing. */
 static int character(const unsigned char *at)
 {
     int more = more_octets(at[0]);

@@ -1,4 +1,5 @@
-/* What the command tells on standard error. The refusals are those of documents 01 and 02, in their order. */
+/* What the command tells on standard error. The refusals are those of documents 01 and 02, in their
+ * order. */
 #include "say.h"
 
 #include <errno.h>
@@ -9,21 +10,26 @@
 struct refusal {
     const char *name;
     const char *means;
-    /* what the detail is; null where it is 0 and says nothing, and of cut, whose detail has words of its own */
+    /* what the detail is; null where it is 0 and says nothing, and of cut, whose detail has words
+     * of its own */
     const char *detail;
 };
 
 static const struct refusal refusals[] = {
     {"done", "a clean end", NULL},
     {"file too long", "the file is over 2^40 octets", NULL},
-    {"cut", "1 to 4 octets are left for a header, 1 to 3 for a section 8, or the payload of a section 1 to 6 is cut", NULL},
+    {"cut",
+     "1 to 4 octets are left for a header, 1 to 3 for a section 8, or the payload of a section 1 "
+     "to 6 is cut",
+     NULL},
     {"other edition", "the edition is not 2", "the edition"},
     {"total under 16", "the total length of a message is under 16", NULL},
     {"no end mark", "a section 8 is not \"7777\"", NULL},
     {"length under 5", "a section's length is under 5", "the length"},
     {"unknown number", "the number in a header is not 1 to 7", "the number"},
     {"payload under least", "a payload is under its section's least", "the payload's size"},
-    {"longer than the rest", "a section is longer than what is left of its message", "the section's length"},
+    {"longer than the rest", "a section is longer than what is left of its message",
+     "the section's length"},
     {"input over", "the file is over inside a message", NULL},
     {"misplaced", "a section of this number can't come next", "the number"},
     {"no grid", "a section 4 right after a section 1: there is no grid definition", "the number"},
@@ -32,13 +38,17 @@ static const struct refusal refusals[] = {
     {"too many sections", "the plan has over 4,096 sections", NULL},
     {"not one message", "the plan's numbers are not one message", "the place in the plan"},
     {"outside the store", "a payload reaches beyond the store", "the place in the plan"},
-    {"payload size", "a payload is under its section's least, or over 4,294,967,290", "the place in the plan"},
-    {"no room", "the destination is shorter than what is to be written, or that is over 2^40 octets", NULL},
+    {"payload size", "a payload is under its section's least, or over 4,294,967,290",
+     "the place in the plan"},
+    {"no room",
+     "the destination is shorter than what is to be written, or that is over 2^40 octets", NULL},
     {"text too small", "the text of an inventory is longer than its buffer", NULL},
-    {"line not in form", "a line is not in the inventory's form, or no line feed closes it", "the line's number, from 1"},
+    {"line not in form", "a line is not in the inventory's form, or no line feed closes it",
+     "the line's number, from 1"},
 };
 
-static const struct refusal unknown = {"unknown", "a number that documents 01 and 02 do not have", NULL};
+static const struct refusal unknown = {"unknown", "a number that documents 01 and 02 do not have",
+                                       NULL};
 
 static const struct refusal *refusal_of(uint64_t outcome)
 {
@@ -89,7 +99,8 @@ enum status say_system(const char *name)
 /* The library never counts 0 here: of a file that is cut an octet is missing at least. */
 static void put_missing(uint64_t octets)
 {
-    fprintf(stderr, " (%ju %s missing)", (uintmax_t)octets, octets == 1 ? "octet is" : "octets are");
+    fprintf(stderr, " (%ju %s missing)", (uintmax_t)octets,
+            octets == 1 ? "octet is" : "octets are");
 }
 
 static void put_detail(uint64_t outcome, uint64_t detail)
@@ -102,13 +113,17 @@ static void put_detail(uint64_t outcome, uint64_t detail)
     }
 }
 
-enum status say_refused(const char *name, uint64_t outcome, uint64_t place, uint64_t offset, uint64_t detail)
+enum status say_end(const char *name, struct end end)
 {
-    const struct refusal *refusal = refusal_of(outcome);
+    const struct refusal *refusal = refusal_of(end.outcome);
+    if (end.outcome == BUTTRESK_DONE) {
+        return CLEAN;
+    }
     start(name);
-    fprintf(stderr, "refused by %ju (%s): %s; place %ju, offset %ju, detail %ju", (uintmax_t)outcome, refusal->name,
-            refusal->means, (uintmax_t)place, (uintmax_t)offset, (uintmax_t)detail);
-    put_detail(outcome, detail);
+    fprintf(stderr, "refused by %ju (%s): %s; place %ju, offset %ju, detail %ju",
+            (uintmax_t)end.outcome, refusal->name, refusal->means, (uintmax_t)end.place,
+            (uintmax_t)end.offset, (uintmax_t)end.detail);
+    put_detail(end.outcome, end.detail);
     putc('\n', stderr);
     return REFUSED;
 }
@@ -116,5 +131,6 @@ enum status say_refused(const char *name, uint64_t outcome, uint64_t place, uint
 void say_rest_starts(const char *name, uint64_t octet)
 {
     start(name);
-    fprintf(stderr, "a re-request has to start at octet %ju, counted from 0, where the file ends\n", (uintmax_t)octet);
+    fprintf(stderr, "a re-request has to start at octet %ju, counted from 0, where the file ends\n",
+            (uintmax_t)octet);
 }

@@ -28,7 +28,8 @@ static bool is_regular(const struct source *source)
         errno = EISDIR;
         return fails(source->name);
     }
-    return S_ISREG(source->start.st_mode) || fails_as(source->name, "not a regular file: it can't be mapped");
+    return S_ISREG(source->start.st_mode) ||
+           fails_as(source->name, "not a regular file: it can't be mapped");
 }
 
 static bool mapped(struct source *source, int fd)
@@ -55,7 +56,8 @@ bool source_open(struct source *source, const char *name)
 {
     *source = (struct source){.name = name, .octets = none};
     clock_gettime(CLOCK_MONOTONIC, &source->begun);
-    /* O_NONBLOCK: the opening of a pipe would wait for its writer; of a regular file it changes nothing. */
+    /* O_NONBLOCK: the opening of a pipe would wait for its writer; of a regular file it changes
+     * nothing. */
     int fd = open(name, O_RDONLY | O_CLOEXEC | O_NOCTTY | O_NONBLOCK);
     if (fd < 0) {
         return fails(name);
@@ -81,16 +83,19 @@ bool source_same(const struct source *source)
         return fails_as(source->name, "was replaced by another file while it was read");
     }
     if (now.st_size != source->start.st_size) {
-        return fails_as(source->name, now.st_size < source->start.st_size ? "was shortened while it was read"
-                                                                          : "grew while it was read");
+        return fails_as(source->name, now.st_size < source->start.st_size
+                                          ? "was shortened while it was read"
+                                          : "grew while it was read");
     }
-    return same_time(now.st_mtim, source->start.st_mtim) || fails_as(source->name, "was written to while it was read");
+    return same_time(now.st_mtim, source->start.st_mtim) ||
+           fails_as(source->name, "was written to while it was read");
 }
 
 void source_say_fault(const struct source *source)
 {
     if (source_same(source)) {
-        say_failed(source->name, "its octets could not be read from the disk, or it was changed and restored");
+        say_failed(source->name,
+                   "its octets could not be read from the disk, or it was changed and restored");
     }
 }
 

@@ -1,6 +1,7 @@
 /*
- * A file that is mapped to be read. The library's promises hold of octets that nobody changes during a call; nothing keeps another process
- * from changing them, so what was found is only told, or put in place, if the file is afterwards still what it was.
+ * A file that is mapped to be read. The library's promises hold of octets that nobody changes
+ * during a call; nothing keeps another process from changing them, so what was found is only told,
+ * or put in place, if the file is afterwards still what it was.
  */
 #ifndef SOURCE_H
 #define SOURCE_H
@@ -15,7 +16,7 @@ struct source {
     const char *name;
     const uint8_t *octets; /* never null, also of an empty file */
     size_t size;
-    struct stat start; /* of the file, when it was opened */
+    struct stat start;     /* of the file, when it was opened */
     struct timespec begun; /* when work on it began, by the monotonic clock */
 };
 

@@ -9,7 +9,8 @@
    of its own at least and nine at most, so neither table is much larger than it need be. */
 enum { FIRST_ROWS = 1024, FIRST_LINES = 128 };
 
-static_assert(sizeof(size_t) == 8, "a table's size in bytes has to fit: a file of 2^40 octets has under 2^38 sections");
+static_assert(sizeof(size_t) == 8,
+              "a table's size in bytes has to fit: a file of 2^40 octets has under 2^38 sections");
 
 struct walking {
     struct tables *tables;
@@ -20,8 +21,8 @@ static void walk(void *with)
 {
     struct walking *w = with;
     struct tables *t = w->tables;
-    t->answer = buttresk_walk(w->source->octets, w->source->size, t->rows, t->row_room * BUTTRESK_ROW, t->lines,
-                              t->line_room * BUTTRESK_LINE);
+    t->answer = buttresk_walk(w->source->octets, w->source->size, t->rows,
+                              t->row_room * BUTTRESK_ROW, t->lines, t->line_room * BUTTRESK_LINE);
 }
 
 static bool sized(uint64_t **table, size_t *room, size_t wanted, size_t numbers)
@@ -47,7 +48,8 @@ static bool tables_fit(const void *with)
 
 bool tables_walk(struct tables *tables, const struct source *source)
 {
-    static const struct growing growing = {"walking", "there is no memory for its tables", lend_tables, walk, tables_fit};
+    static const struct growing growing = {"walking", "there is no memory for its tables",
+                                           lend_tables, walk, tables_fit};
     struct walking walking = {tables, source};
     *tables = (struct tables){0};
     return answered(&growing, &walking, source);

@@ -28,8 +28,8 @@ struct row {
    places, and the message's offset and total length stand behind them. */
 enum column { MESSAGE, SUBMESSAGE, HAS_LOCAL, CLOSED, PLACES, OFFSET = PLACES + 9, TOTAL };
 
-/* Says its own reason, and answers false, if the file could not be walked to an answer. The answer may be a refusal, of 13 and 14 neither.
-   The tables are to be freed either way. */
+/* Says its own reason, and answers false, if the file could not be walked to an answer. The answer
+   may be a refusal, of 13 and 14 neither. The tables are to be freed either way. */
 bool tables_walk(struct tables *tables, const struct source *source);
 
 struct row tables_row(const struct tables *tables, uint64_t place);

@@ -31,7 +31,8 @@ static struct timespec next_turn(void)
     return turn;
 }
 
-/* Of a mapped file no octet is lost by this: the next access finds the page again, and written pages stay with the file. */
+/* Of a mapped file no octet is lost by this: the next access finds the page again, and written
+ * pages stay with the file. */
 static void hand_back_pages(const void *map, size_t size)
 {
     if (size != 0) {
@@ -39,7 +40,8 @@ static void hand_back_pages(const void *map, size_t size)
     }
 }
 
-/* The end of a name tells most. It is for the eye alone, so what would spoil the line becomes a question mark. */
+/* The end of a name tells most. It is for the eye alone, so what would spoil the line becomes a
+ * question mark. */
 static void label_of(const char *name, char label[NAME_WIDTH + 1])
 {
     size_t length = strlen(name);
@@ -57,7 +59,8 @@ static void show(struct watch *watch)
     char label[NAME_WIDTH + 1];
     label_of(watch->source->name, label);
     int before = watch->shown;
-    watch->shown = fprintf(stderr, "\rbuttresk: %s: %s, %ld s", label, watch->doing, elapsed(watch) / 1000);
+    watch->shown =
+        fprintf(stderr, "\rbuttresk: %s: %s, %ld s", label, watch->doing, elapsed(watch) / 1000);
     if (watch->shown < before) {
         fprintf(stderr, "%*s", before - watch->shown, "");
     }

@@ -6,7 +6,7 @@ import sys
 from pathlib import Path
 from typing import NamedTuple
 
-RUN = Path(__file__).resolve().parent.parent / "run"
+RUN = Path(__file__).resolve().parent.parent / "run.sh"
 
 # --- Requests, as docs/REPLAY.md writes them -----------------------------------------------------
 
@@ -41,7 +41,7 @@ def write_request(plan):
 
 
 def run(program, octets):
-    """What a program prints, given the octets on standard input. `tests/run` runs it on any
+    """What a program prints, given the octets on standard input. `tests/run.sh` runs it on any
     processor, and says what is missing for that."""
     done = subprocess.run([RUN, program], input=octets, capture_output=True)
     if done.returncode:

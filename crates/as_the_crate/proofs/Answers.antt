@@ -1,4 +1,4 @@
--- Written by tests/oracle/transcription: the answers of the crate grib 0.20.2 itself to 125
+-- Written by tests/oracle/transcription.py: the answers of the crate grib 0.20.2 itself to 125
 -- files, which are those of its transcription.
 use Prim.Native.Nat.{ℕ}
 use mathlib.Core.Path.{_≡_, refl}

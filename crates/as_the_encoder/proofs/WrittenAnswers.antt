@@ -1,4 +1,4 @@
--- Written by tests/oracle/encoding from the crate's own answers to 30 nested messages: the transcription of its writer gives the same.
+-- Written by tests/oracle/encoding.py from the crate's own answers to 30 nested messages: the transcription of its writer gives the same.
 use Prim.Native.Nat.{ℕ}
 use mathlib.Core.Path.{_≡_, refl}
 use mathlib.Core.List.{List, [], _∷_, map}

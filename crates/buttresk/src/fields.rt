@@ -64,7 +64,7 @@ pub struct BitMapFields {
     pub indicator: u8,
 }
 
-// Section 0, of the section's own octets.
+// Section 0's fields with `known` 1, or `known` 0: of the section's own octets.
 #[no_mangle]
 pub extern "C" fn buttresk_indicator(section: &[u8]) -> IndicatorFields
     ensures { λ r. ⌜ r ≡ indicatorFields (indicatorOf (now (section .entry))) ⌝ }
@@ -105,7 +105,7 @@ fn no_identification() -> IdentificationFields
     }
 }
 
-// Section 1, of its payload.
+// Section 1's fields with `known` 1, or `known` 0: of its payload.
 #[no_mangle]
 pub extern "C" fn buttresk_identification(payload: &[u8]) -> IdentificationFields
     ensures { λ r. ⌜ r ≡ identificationFields (identificationOf (now (payload .entry))) ⌝ }
@@ -131,7 +131,7 @@ pub extern "C" fn buttresk_identification(payload: &[u8]) -> IdentificationField
     }
 }
 
-// Section 3, of its payload.
+// Section 3's fields with `known` 1, or `known` 0: of its payload.
 #[no_mangle]
 pub extern "C" fn buttresk_grid_definition(payload: &[u8]) -> GridFields
     ensures { λ r. ⌜ r ≡ gridFields (gridDefinitionOf (now (payload .entry))) ⌝ }
@@ -150,7 +150,7 @@ pub extern "C" fn buttresk_grid_definition(payload: &[u8]) -> GridFields
     }
 }
 
-// Section 5, of its payload.
+// Section 5's fields with `known` 1, or `known` 0: of its payload.
 #[no_mangle]
 pub extern "C" fn buttresk_representation(payload: &[u8]) -> RepresentationFields
     ensures { λ r. ⌜ r ≡ representationFields (reprDefinitionOf (now (payload .entry))) ⌝ }
@@ -169,7 +169,7 @@ pub extern "C" fn buttresk_representation(payload: &[u8]) -> RepresentationField
     }
 }
 
-// Section 6, of its payload.
+// Section 6's field with `known` 1, or `known` 0: of its payload.
 #[no_mangle]
 pub extern "C" fn buttresk_bit_map(payload: &[u8]) -> BitMapFields
     ensures { λ r. ⌜ r ≡ bitMapFields (bitMapOf (now (payload .entry))) ⌝ }

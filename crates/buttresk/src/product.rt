@@ -135,7 +135,7 @@ fn surfaces_field(maybe: MaybeSurfaces) -> SurfacesField
     }
 }
 
-// Section 4, of its payload.
+// Section 4's fields with `known` 1, or `known` 0: of its payload. Each product field has its own.
 #[no_mangle]
 pub extern "C" fn buttresk_product_definition(payload: &[u8]) -> ProductFields
     ensures { λ r. ⌜ r ≡ productFields (now (payload .entry)) ⌝ }

@@ -87,7 +87,7 @@ pub record Demand2 : Type 0 where
   pub reads-back : plan.WrittenReadsBack
   -- the Rust, transcribed: where it does not overflow and the tables hold its lines, both walks and
   -- the pull reader give what it tells, which has no count of missing octets. It overflows exactly
-  -- where 01's additions refuse. The transcription is tested (`tests/oracle/transcription`)
+  -- where 01's additions refuse. The transcription is tested (`tests/oracle/transcription.py`)
   pub walk-is-the-rust's : rust.WalkEqualsTheRust
   pub numbers-are-the-rust's : rust.WalkNumbersEqualsTheRust
   pub pull-is-the-rust's : rust.PullEqualsTheRust

@@ -50,6 +50,7 @@ impl Identification {
         }
     }
 
+    // The 13 fields; none under 16 octets.
     pub fn from_payload(payload: &[u8]) -> MaybeIdentification
         ensures { λ r. ⌜ r ≡ identificationOf (now (payload .entry)) ⌝ }
     {

@@ -37,6 +37,7 @@ impl ReprDefinition {
         }
     }
 
+    // Points and template; none under 6 octets.
     pub fn from_payload(payload: &[u8]) -> MaybeReprDefinition
         ensures { λ r. ⌜ r ≡ reprDefinitionOf (now (payload .entry)) ⌝ }
     {

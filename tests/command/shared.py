@@ -8,7 +8,8 @@ import sys
 import tempfile
 from pathlib import Path
 
-ROOT = Path(__file__).resolve().parent.parent
+ROOT = Path(__file__).resolve().parent.parent.parent
+sys.path.append(str(ROOT / "tests/lists"))
 SAMPLES = ROOT / "samples"
 ECCODES_SAMPLES = Path("/usr/share/eccodes/samples")
 
@@ -161,4 +162,4 @@ def end_in_time(seconds):
 
 def need_python():
     if sys.version_info < (3, 9):
-        sys.exit("tests/command: Python 3.9 or later is wanted")
+        sys.exit("tests/command/run.py: Python 3.9 or later is wanted")

@@ -7,9 +7,9 @@ import stat
 import subprocess
 from pathlib import Path
 
-from command_listing import SEA as SEA_INVENTORY
-from command_reading import COLUMNS, CUT_INDEX, SEA_FIELDS, SEA_INDEX, cut_refusal, re_request, table
-from command_run import ROOT, Command, check, check_equal, folder, skip, write
+from listing import SEA as SEA_INVENTORY
+from reading import COLUMNS, CUT_INDEX, SEA_FIELDS, SEA_INDEX, cut_refusal, re_request, table
+from shared import ROOT, Command, check, check_equal, folder, skip, write
 
 MAN_PAGE = ROOT / "docs" / "buttresk.1"
 COMPILER = os.environ.get("CC", "cc")

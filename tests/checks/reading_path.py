@@ -8,7 +8,7 @@ import re
 import sys
 from pathlib import Path
 
-ROOT = Path(__file__).resolve().parent.parent
+ROOT = Path(__file__).resolve().parent.parent.parent
 PAGE = "crates/promises/specs/Promises.antt"
 MOST, MOST_OF_PAGE = 1_500, 120
 

@@ -9,7 +9,7 @@ import sys
 from functools import cache
 from pathlib import Path
 
-ROOT = Path(__file__).resolve().parent.parent
+ROOT = Path(__file__).resolve().parent.parent.parent
 REFERENCE = re.compile(r"([\w./-]+)(?:: (.+))?")
 # By a file's suffix; a script has none.
 DECLARES = {

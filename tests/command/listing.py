@@ -8,7 +8,7 @@ from pathlib import Path
 import inventory_by_02
 import inventory_files
 import walk_files
-from command_run import ECCODES_SAMPLES, SAMPLES, check, check_ended, check_equal, folder, run, skip, tells, write
+from shared import ECCODES_SAMPLES, SAMPLES, check, check_ended, check_equal, folder, run, skip, tells, write
 
 # --- Written by hand -----------------------------------------------------------------------------
 

@@ -1,5 +1,5 @@
 #!/usr/bin/env -S python3 -B
-"""Demand 3 of walk and inventory, tried: tests/blind_pairs [--pairs N] [--seed N] target/bin/replay
+"""Demand 3 of walk and inventory, tried: tests/lists/blind_pairs.py [--pairs N] [--seed N] target/bin/replay
 
 Makes pairs of files of one length that differ in values octets only, asks `replay` for the walk and
 the inventory of both (kinds `W`, `I`), and holds the answers against each other, the lines of the
@@ -19,7 +19,7 @@ import reference
 from reference import LEAST, values_octets
 from walk_files import END, message, section
 
-RUN = Path(__file__).resolve().parent / "run"
+RUN = Path(__file__).resolve().parent.parent / "run.sh"
 MOST_INPUT = 262144
 TEMPLATES = [0, 1, 8, 11, 15, 20, 32, 40, 44, 47, 48, 51, 60, 70, 76, 82, 88, 91, 254, 1000, 1100, 1101, 65535]
 

@@ -2,7 +2,7 @@
 """Hold the transcription of the crate's writer (crates/as_the_encoder/specs/Encoder.antt) against the
 crate: nested messages and the oracle's answers as statements that the checker decides by computing.
 
-    tests/oracle/encoding --oracle OUT [--each N] [--seed N] [--count N]
+    tests/oracle/encoding.py --oracle OUT [--each N] [--seed N] [--count N]
         > crates/as_the_encoder/proofs/WrittenAnswers.antt
 
 Total length, octets counted, the whole destination, and the destination of a call through a
@@ -14,7 +14,7 @@ import sys
 from pathlib import Path
 
 TESTS = Path(__file__).resolve().parent.parent
-sys.path[:0] = [str(TESTS / "oracle"), str(TESTS)]
+sys.path[:0] = [str(TESTS / "oracle"), str(TESTS / "lists")]
 
 from plans import Plan, all_plans, for_crate, payloads, refusal, total_length
 from sides import Oracle
@@ -23,7 +23,7 @@ LONGEST = 160           # octets of a destination; what is longer takes the chec
 IN_ONE = 20             # answers in one statement
 
 HEAD = """\
--- Written by tests/oracle/encoding from the crate's own answers to {count} nested messages: the transcription of its writer gives the same.
+-- Written by tests/oracle/encoding.py from the crate's own answers to {count} nested messages: the transcription of its writer gives the same.
 use Prim.Native.Nat.{{ℕ}}
 use mathlib.Core.Path.{{_≡_, refl}}
 use mathlib.Core.List.{{List, [], _∷_, map}}

@@ -8,7 +8,7 @@ import re
 import sys
 from pathlib import Path
 
-CRATES = Path(__file__).resolve().parent.parent / "crates"
+CRATES = Path(__file__).resolve().parent.parent.parent / "crates"
 FUNCTION = re.compile(r"^( *)pub (?:extern \"C\" )?fn (\w+)", re.M)
 PROMISED = re.compile(r"^  pub \S+ :\s+(?:Gives|Promised) M .*?(\S+)\.clauses\b", re.M | re.S)
 TYPE = re.compile(r"^impl(?:<[^>]*>)? (\w+)", re.M)

@@ -14,7 +14,7 @@ from pathlib import Path
 
 import copy_files
 import reference
-from command_run import (ECCODES_SAMPLES, SAMPLES, Command, check, check_ended, check_equal, emulated, folder, is_root, names_in, run, skip,
+from shared import (ECCODES_SAMPLES, SAMPLES, Command, check, check_ended, check_equal, emulated, folder, is_root, names_in, run, skip,
                          start, tells, write)
 from walk_files import END, least, message, section
 

@@ -86,7 +86,7 @@ def built(folder):
 
 
 def compared(program, given):
-    words = [HERE / "compare", "--replay", program, "--oracle", given.oracle,
+    words = [HERE / "compare.py", "--replay", program, "--oracle", given.oracle,
              "--eccodes", given.eccodes, "--every", str(given.every), "--kinds", given.kinds]
     return subprocess.run(words, capture_output=True, text=True)
 

@@ -11,27 +11,15 @@ import subprocess
 import sys
 import tempfile
 from collections import Counter
-from importlib.machinery import SourceFileLoader
-from importlib.util import module_from_spec, spec_from_loader
 from pathlib import Path
 
 TESTS = Path(__file__).resolve().parent.parent
-sys.path[:0] = [str(TESTS / "oracle"), str(TESTS)]
+sys.path[:0] = [str(TESTS / "oracle"), str(TESTS / "lists")]
 
+import replay_lists as lists
 from reference import walk as walk_by_01
 from sides import LARGEST_INPUT, fields_request, run, walk_request
 from walk_files import END, message
-
-
-def script(name):
-    """A script of tests/ as a module: it has no suffix."""
-    loader = SourceFileLoader(name, str(TESTS / name))
-    module = module_from_spec(spec_from_loader(name, loader))
-    loader.exec_module(module)
-    return module
-
-
-lists = script("replay_lists")
 
 CATEGORY_AND_NUMBER, UNIT_AND_TIME, SURFACES = (lists.KEYS[4][part] for part in (
     slice(2, 4), slice(5, 7), slice(7, None)))

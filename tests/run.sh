@@ -1,17 +1,17 @@
 #!/bin/sh
 # Runs a program whichever processor this is:
-#   tests/run PROGRAM [ARG..]
+#   tests/run.sh PROGRAM [ARG..]
 # The programs under target/bin are x86-64 code: elsewhere the emulator runs them, with the C
 # library of that processor. A program of this processor's own is run as it is. QEMU names another
 # emulator, QEMU_LD_PREFIX another folder of that C library.
 set -u
 
 fail() {
-    echo "tests/run: $*" >&2
+    echo "tests/run.sh: $*" >&2
     exit 2
 }
 
-[ $# -gt 0 ] || fail "usage: tests/run PROGRAM [ARG..]"
+[ $# -gt 0 ] || fail "usage: tests/run.sh PROGRAM [ARG..]"
 [ -x "$1" ] || fail "$1 is no program (rt check NAME makes target/bin/NAME)"
 
 # The head of a program of x86-64: "ELF" behind an octet 7f, and 62 (3e) for the processor.

@@ -1,7 +1,5 @@
 """`index` and `fields`: what they print, against answers written by hand, by `reference.py` and `replay_lists`, and by eccodes."""
 
-import importlib.machinery
-import importlib.util
 import json
 import shutil
 import subprocess
@@ -9,21 +7,10 @@ from pathlib import Path
 
 import copy_files
 import reference
+import replay_lists
 import walk_files
-from command_run import ECCODES_SAMPLES, ROOT, SAMPLES, check, check_ended, check_equal, folder, missing, run, skip, tells, write
+from shared import ECCODES_SAMPLES, ROOT, SAMPLES, check, check_ended, check_equal, folder, missing, run, skip, tells, write
 from walk_files import A, END, message, section
-
-
-def loaded_from(path):
-    """A script as a module, whatever its name."""
-    loader = importlib.machinery.SourceFileLoader(path.stem, str(path))
-    module = importlib.util.module_from_spec(importlib.util.spec_from_loader(path.stem, loader))
-    loader.exec_module(module)
-    return module
-
-
-# The reader of fields by document 01.
-replay_lists = loaded_from(ROOT / "tests" / "replay_lists")
 
 # --- Written by hand -----------------------------------------------------------------------------
 

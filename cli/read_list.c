@@ -7,11 +7,13 @@
 #include "commands.h"
 #include "growing.h"
 #include "json.h"
+#include "out.h"
 #include "source.h"
 
 enum { FIRST_ENTRIES = 1024 };
 
-/* Where the thirteen numbers of an entry have which field; `known` is where it is said whether there is one, for those that can be none. */
+/* Where the thirteen numbers of an entry have which field; `known` is where it is said whether
+ * there is one, for those that can be none. */
 enum { ALWAYS = -1, COLUMNS = 7 };
 
 static const struct column {
@@ -19,7 +21,7 @@ static const struct column {
     int known;
     int value;
 } columns[COLUMNS] = {
-    {"offset", ALWAYS, 2}, {"discipline", ALWAYS, 3}, {"category", 4, 5}, {"number", 6, 7},
+    {"offset", ALWAYS, 2}, {"discipline", ALWAYS, 3}, {"category", 4, 5},     {"number", 6, 7},
     {"time_unit", 8, 9},   {"time", 8, 10},           {"first_type", 11, 12},
 };
 
@@ -42,7 +44,8 @@ static bool lend_entries(void *with, size_t times)
 static void read_lines(void *with)
 {
     struct reading *r = with;
-    r->answer = buttresk_read_list(r->source->octets, r->source->size, r->entries, r->room * BUTTRESK_ENTRY);
+    r->answer = buttresk_read_list(r->source->octets, r->source->size, r->entries,
+                                   r->room * BUTTRESK_ENTRY);
 }
 
 static bool entries_fit(const void *with)
@@ -116,18 +119,20 @@ static enum status print_list(const struct reading *r, bool head, bool json)
     if (!output_taken()) {
         return FAILED;
     }
-    return a->outcome == BUTTRESK_DONE ? CLEAN : say_refused(r->source->name, a->outcome, a->place, a->offset, a->detail);
+    return say_end(r->source->name, END_OF(*a));
 }
 
 enum status read_list(const char *name, bool head, bool json)
 {
-    static const struct growing growing = {"reading", "there is no memory for its entries", lend_entries, read_lines, entries_fit};
+    static const struct growing growing = {"reading", "there is no memory for its entries",
+                                           lend_entries, read_lines, entries_fit};
     struct source source;
     struct reading reading = {.source = &source};
     if (!source_open(&source, name)) {
         return FAILED;
     }
-    enum status status = answered(&growing, &reading, &source) ? print_list(&reading, head, json) : FAILED;
+    enum status status =
+        answered(&growing, &reading, &source) ? print_list(&reading, head, json) : FAILED;
     free(reading.entries);
     source_close(&source);
     return status;

@@ -11,7 +11,7 @@ import time
 from pathlib import Path
 
 import reference
-from command_run import check, check_ended, emulated, finish, folder, meanwhile, names_in, run, skip, start, write
+from shared import check, check_ended, emulated, finish, folder, meanwhile, names_in, run, skip, start, write
 from walk_files import A, END, least, message, section
 
 SHORTENED, GREW, WRITTEN = b": was shortened while it was read\n", b": grew while it was read\n", b": was written to while it was read\n"

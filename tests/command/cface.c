@@ -1,24 +1,27 @@
 /*
- * The C face, called from C: document 01's sample A and some of its neighbours, by include/buttresk.h and the archive.
+ * The C face, called from C: document 01's sample A and some of its neighbours, by
+ * include/buttresk.h and the archive.
  *
  *     rt staticlib buttresk
- *     cc -std=c11 -Wall -Wextra -Iinclude tests/cface.c target/staticlib/libbuttresk.a -o target/cface && target/cface
+ *     cc -std=c11 -Wall -Wextra -Iinclude tests/command/cface.c target/staticlib/libbuttresk.a -o
+ * target/cface && target/cface
  *
- * What is expected is written by hand from documents 01 and 02. It prints each check that fails, and the count.
+ * What is expected is written by hand from documents 01 and 02. It prints each check that fails,
+ * and the count.
  */
+#include "buttresk.h"
 #include <stdio.h>
 #include <string.h>
-#include "buttresk.h"
 
 static int checks, failed;
 
-#define EXPECT(holds)                                                \
-    do {                                                             \
-        checks++;                                                    \
-        if (!(holds)) {                                              \
-            failed++;                                                \
-            printf("%s:%d: not so: %s\n", __FILE__, __LINE__, #holds); \
-        }                                                            \
+#define EXPECT(holds)                                                                              \
+    do {                                                                                           \
+        checks++;                                                                                  \
+        if (!(holds)) {                                                                            \
+            failed++;                                                                              \
+            printf("%s:%d: not so: %s\n", __FILE__, __LINE__, #holds);                             \
+        }                                                                                          \
     } while (0)
 
 /* A file that is built section by section. No payload octet is 0, so that a blanked one is seen. */
@@ -63,12 +66,14 @@ static struct file sample_a(void)
     return f;
 }
 
-static int ended(struct buttresk_walk_answer a, uint64_t outcome, uint64_t place, uint64_t offset, uint64_t detail)
+static int ended(struct buttresk_walk_answer a, uint64_t outcome, uint64_t place, uint64_t offset,
+                 uint64_t detail)
 {
     return a.outcome == outcome && a.place == place && a.offset == offset && a.detail == detail;
 }
 
-static int counted(struct buttresk_walk_answer a, uint64_t sections, uint64_t submessages, uint64_t messages)
+static int counted(struct buttresk_walk_answer a, uint64_t sections, uint64_t submessages,
+                   uint64_t messages)
 {
     return a.sections == sections && a.submessages == submessages && a.messages == messages;
 }
@@ -78,7 +83,8 @@ static int counted(struct buttresk_walk_answer a, uint64_t sections, uint64_t su
 enum { ROWS = 8 * BUTTRESK_ROW + 2, LINES = BUTTRESK_LINE + 14 };
 static uint64_t rows[ROWS], lines[LINES];
 
-static struct buttresk_walk_answer walk(const uint8_t *octets, size_t size, size_t row_numbers, size_t line_numbers)
+static struct buttresk_walk_answer walk(const uint8_t *octets, size_t size, size_t row_numbers,
+                                        size_t line_numbers)
 {
     for (int i = 0; i < ROWS; i++) {
         rows[i] = 99;
@@ -91,7 +97,8 @@ static struct buttresk_walk_answer walk(const uint8_t *octets, size_t size, size
 
 static void walks(void)
 {
-    static const uint64_t a_rows[ROWS] = {0, 0, 16, 1, 16, 21, 3, 37, 14, 4, 51, 9, 5, 60, 11, 6, 71, 6, 7, 77, 5, 8, 82, 4, 99, 99};
+    static const uint64_t a_rows[ROWS] = {0,  0,  16, 1,  16, 21, 3,  37, 14, 4,  51, 9,  5,
+                                          60, 11, 6,  71, 6,  7,  77, 5,  8,  82, 4,  99, 99};
     /* message, submessage; no section 2; closed; nine places; offset, total length */
     static const uint64_t a_line[15] = {0, 0, 0, 1, 0, 1, 0, 2, 3, 4, 5, 6, 7, 0, 86};
     struct file a = sample_a();
@@ -158,7 +165,7 @@ static void add_117(struct file *f)
 /* The line of a message that goes on, and the line that closes it. */
 static void walks_of_messages_that_go_on(void)
 {
-    static const uint64_t two_lines[30] = {0, 0, 0, 0, 0, 1, 0, 2, 3, 4, 5, 6, 0, 0, 117,
+    static const uint64_t two_lines[30] = {0, 0, 0, 0, 0, 1, 0, 2, 3, 4, 5, 6,  0,  0, 117,
                                            0, 1, 0, 1, 0, 1, 0, 2, 7, 8, 9, 10, 11, 0, 117};
     uint64_t more[12 * BUTTRESK_ROW], two[30];
     struct file f = {.size = 0};
@@ -178,8 +185,8 @@ static void walks_of_messages_that_go_on(void)
 /* Offsets and places count from the file's start, and a second message has its own. */
 static void walks_of_later_messages(void)
 {
-    static const uint64_t behind_a[45] = {0, 0, 0, 1, 0, 1, 0, 2, 3, 4, 5, 6, 7, 0, 86,
-                                          1, 0, 0, 0, 8, 9, 0, 10, 11, 12, 13, 14, 0, 86, 117,
+    static const uint64_t behind_a[45] = {0, 0, 0, 1, 0, 1, 0, 2,  3,  4,  5,  6,  7,  0,  86,
+                                          1, 0, 0, 0, 8, 9, 0, 10, 11, 12, 13, 14, 0,  86, 117,
                                           1, 1, 0, 1, 8, 9, 0, 10, 15, 16, 17, 18, 19, 86, 117};
     uint64_t more[20 * BUTTRESK_ROW], three[45];
     struct file f = sample_a(), g = {.size = 0};
@@ -226,14 +233,17 @@ static void copies(void)
     memset(untouched, 77, sizeof untouched);
     memset(dest, 77, sizeof dest);
     struct buttresk_store_answer r = buttresk_publish(a.octets, a.size, dest, 85);
-    EXPECT(r.outcome == BUTTRESK_NO_ROOM && r.written == 0 && memcmp(dest, untouched, sizeof dest) == 0);
+    EXPECT(r.outcome == BUTTRESK_NO_ROOM && r.written == 0 &&
+           memcmp(dest, untouched, sizeof dest) == 0);
     r = buttresk_publish(a.octets, 82, dest, sizeof dest);
-    EXPECT(r.outcome == BUTTRESK_INPUT_OVER && r.place == 6 && r.offset == 77 && r.detail == 0 && r.written == 0);
+    EXPECT(r.outcome == BUTTRESK_INPUT_OVER && r.place == 6 && r.offset == 77 && r.detail == 0 &&
+           r.written == 0);
     EXPECT(memcmp(dest, untouched, sizeof dest) == 0);
 
     /* in A no octet is a value but what is put before and behind it */
     r = buttresk_publish(a.octets, a.size, dest, sizeof dest);
-    EXPECT(r.outcome == BUTTRESK_DONE && r.place == 0 && r.offset == 0 && r.detail == 0 && r.written == 86);
+    EXPECT(r.outcome == BUTTRESK_DONE && r.place == 0 && r.offset == 0 && r.detail == 0 &&
+           r.written == 86);
     EXPECT(memcmp(dest, a.octets, 86) == 0 && dest[86] == 77 && dest[87] == 77);
 
     /* a section 5 of one octet more, and one octet before the message */
@@ -245,20 +255,25 @@ static void copies(void)
     add(&b, a.octets + 71, 15);
     r = buttresk_publish(b.octets, b.size, dest, sizeof dest);
     EXPECT(b.size == 88 && r.outcome == BUTTRESK_DONE && r.written == 88);
-    EXPECT(dest[0] == 0 && dest[1] == 'G' && dest[71] == 6 && b.octets[72] == 7 && dest[72] == 0 && dest[73] == 0 && dest[76] == 6);
+    EXPECT(dest[0] == 0 && dest[1] == 'G' && dest[71] == 6 && b.octets[72] == 7 && dest[72] == 0 &&
+           dest[73] == 0 && dest[76] == 6);
 }
 
-/* By each function that walks a file: the place, the offset and the count of missing octets of one that is cut, and nothing written. */
-static void expect_cut(const uint8_t *octets, size_t size, uint64_t place, uint64_t offset, uint64_t missing)
+/* By each function that walks a file: the place, the offset and the count of missing octets of one
+ * that is cut, and nothing written. */
+static void expect_cut(const uint8_t *octets, size_t size, uint64_t place, uint64_t offset,
+                       uint64_t missing)
 {
     uint8_t dest[256];
     memset(dest, 77, sizeof dest);
     struct buttresk_walk_answer r = walk(octets, size, ROWS, LINES);
     EXPECT(counted(r, place, 0, 0) && ended(r, BUTTRESK_CUT, place, offset, missing));
     struct buttresk_store_answer s = buttresk_publish(octets, size, dest, sizeof dest);
-    EXPECT(s.outcome == BUTTRESK_CUT && s.place == place && s.offset == offset && s.detail == missing && s.written == 0 && dest[0] == 77);
+    EXPECT(s.outcome == BUTTRESK_CUT && s.place == place && s.offset == offset &&
+           s.detail == missing && s.written == 0 && dest[0] == 77);
     s = buttresk_inventory(octets, size, dest, sizeof dest);
-    EXPECT(s.outcome == BUTTRESK_CUT && s.place == place && s.offset == offset && s.detail == missing && s.written == 0 && dest[0] == 77);
+    EXPECT(s.outcome == BUTTRESK_CUT && s.place == place && s.offset == offset &&
+           s.detail == missing && s.written == 0 && dest[0] == 77);
 }
 
 /* A's sections start at 0, 16, 37, 51, 60, 71, 77 and 82. */
@@ -302,18 +317,22 @@ static void writes(void)
         plan[(i - 1) * 3 + 2] = rows[i * 3 + 2] - 5;
     }
     memset(dest, 77, sizeof dest);
-    struct buttresk_store_answer w = buttresk_write(10, 255, 255, plan, 19, a.octets, a.size, dest, sizeof dest);
-    EXPECT(w.outcome == BUTTRESK_DONE && w.place == 0 && w.offset == 0 && w.detail == 0 && w.written == 86);
+    struct buttresk_store_answer w =
+        buttresk_write(10, 255, 255, plan, 19, a.octets, a.size, dest, sizeof dest);
+    EXPECT(w.outcome == BUTTRESK_DONE && w.place == 0 && w.offset == 0 && w.detail == 0 &&
+           w.written == 86);
     EXPECT(memcmp(dest, a.octets, 86) == 0 && dest[86] == 77);
 
     memset(dest, 77, sizeof dest);
     w = buttresk_write(10, 255, 255, plan, 18, a.octets, a.size, dest, 85);
     EXPECT(w.outcome == BUTTRESK_NO_ROOM && w.written == 0 && dest[0] == 77);
     w = buttresk_write(10, 255, 255, plan, 15, a.octets, a.size, dest, sizeof dest);
-    EXPECT(w.outcome == BUTTRESK_NOT_ONE_MESSAGE && w.detail == 5 && w.written == 0 && dest[0] == 77);
+    EXPECT(w.outcome == BUTTRESK_NOT_ONE_MESSAGE && w.detail == 5 && w.written == 0 &&
+           dest[0] == 77);
     plan[2 * 3 + 1] = a.size;
     w = buttresk_write(10, 255, 255, plan, 18, a.octets, a.size, dest, sizeof dest);
-    EXPECT(w.outcome == BUTTRESK_OUTSIDE_STORE && w.detail == 2 && w.place == 0 && w.offset == 0 && w.written == 0 && dest[0] == 77);
+    EXPECT(w.outcome == BUTTRESK_OUTSIDE_STORE && w.detail == 2 && w.place == 0 && w.offset == 0 &&
+           w.written == 0 && dest[0] == 77);
 }
 
 /* 99 stands where nothing is written. */
@@ -324,18 +343,23 @@ static void inventories(void)
     struct file a = sample_a();
     memset(text, 99, sizeof text);
     struct buttresk_store_answer r = buttresk_inventory(a.octets, a.size, text, 33);
-    EXPECT(r.outcome == BUTTRESK_TEXT_TOO_SMALL && r.place == 0 && r.offset == 0 && r.detail == 0 && r.written == 0 && text[0] == 99);
+    EXPECT(r.outcome == BUTTRESK_TEXT_TOO_SMALL && r.place == 0 && r.offset == 0 && r.detail == 0 &&
+           r.written == 0 && text[0] == 99);
     r = buttresk_inventory(a.octets, a.size, text, sizeof text);
-    EXPECT(r.outcome == BUTTRESK_DONE && r.written == 34 && memcmp(text, line, 34) == 0 && text[34] == 99);
+    EXPECT(r.outcome == BUTTRESK_DONE && r.written == 34 && memcmp(text, line, 34) == 0 &&
+           text[34] == 99);
     r = buttresk_inventory(a.octets, 84, text, 0);
-    EXPECT(r.outcome == BUTTRESK_CUT && r.place == 7 && r.offset == 82 && r.detail == 2 && r.written == 0);
+    EXPECT(r.outcome == BUTTRESK_CUT && r.place == 7 && r.offset == 82 && r.detail == 2 &&
+           r.written == 0);
     r = buttresk_inventory(a.octets, 0, text, 0);
     EXPECT(r.outcome == BUTTRESK_DONE && r.written == 0);
 }
 
-static int listed(struct buttresk_list_answer a, uint64_t entries, uint64_t outcome, uint64_t detail)
+static int listed(struct buttresk_list_answer a, uint64_t entries, uint64_t outcome,
+                  uint64_t detail)
 {
-    return a.entries == entries && a.outcome == outcome && a.place == 0 && a.offset == 0 && a.detail == detail;
+    return a.entries == entries && a.outcome == outcome && a.place == 0 && a.offset == 0 &&
+           a.detail == detail;
 }
 
 static struct buttresk_list_answer read_text(const char *text, uint64_t *table, size_t numbers)
@@ -348,15 +372,27 @@ static struct buttresk_list_answer read_text(const char *text, uint64_t *table, 
 
 static void lists(void)
 {
-    static const uint64_t expected[2 * BUTTRESK_ENTRY] = {1, 2, 1099511627776, 255, 1, 8, 0, 0, 1, 9, 4294967295, 1, 103,
-                                                          0, 0, 0,             0,   0, 0, 1, 0, 0, 0, 0,          0, 0};
-    static const char two[] = "1:2:1099511627776:255:8:none:9:4294967295:103\n0:0:0:0:none:0:none:none:none\n";
+    static const uint64_t expected[2 * BUTTRESK_ENTRY] = {1,   2,          1099511627776,
+                                                          255, 1,          8,
+                                                          0,   0,          1,
+                                                          9,   4294967295, 1,
+                                                          103, 0,          0,
+                                                          0,   0,          0,
+                                                          0,   1,          0,
+                                                          0,   0,          0,
+                                                          0,   0};
+    static const char two[] =
+        "1:2:1099511627776:255:8:none:9:4294967295:103\n0:0:0:0:none:0:none:none:none\n";
     uint64_t table[2 * BUTTRESK_ENTRY];
-    EXPECT(listed(read_text(two, table, 26), 2, BUTTRESK_DONE, 0) && memcmp(table, expected, sizeof table) == 0);
-    EXPECT(listed(read_text(two, table, 25), 1, BUTTRESK_SUBMESSAGE_TABLE_FULL, 0) && table[12] == 103 && table[13] == 99);
-    EXPECT(listed(read_text("0:0:0:0:0:0:0:0:0\n0:0:0:0:0:0:0:0:00\n", table, 26), 1, BUTTRESK_LINE_NOT_IN_FORM, 2));
+    EXPECT(listed(read_text(two, table, 26), 2, BUTTRESK_DONE, 0) &&
+           memcmp(table, expected, sizeof table) == 0);
+    EXPECT(listed(read_text(two, table, 25), 1, BUTTRESK_SUBMESSAGE_TABLE_FULL, 0) &&
+           table[12] == 103 && table[13] == 99);
+    EXPECT(listed(read_text("0:0:0:0:0:0:0:0:0\n0:0:0:0:0:0:0:0:00\n", table, 26), 1,
+                  BUTTRESK_LINE_NOT_IN_FORM, 2));
     EXPECT(table[4] == 1 && table[13] == 99);
-    EXPECT(listed(read_text("0:0:0:0:0:0:0:0:0", table, 26), 0, BUTTRESK_LINE_NOT_IN_FORM, 1) && table[0] == 99);
+    EXPECT(listed(read_text("0:0:0:0:0:0:0:0:0", table, 26), 0, BUTTRESK_LINE_NOT_IN_FORM, 1) &&
+           table[0] == 99);
     EXPECT(listed(read_text("", table, 0), 0, BUTTRESK_DONE, 0));
 }
 
@@ -368,8 +404,10 @@ static void fields(void)
     EXPECT(buttresk_indicator(a.octets, 15).known == 0);
 
     struct buttresk_identification_fields one = buttresk_identification(a.octets + 21, 16);
-    EXPECT(one.known == 1 && one.centre == 0x0102 && one.subcentre == 0x0304 && one.master == 5 && one.local == 6);
-    EXPECT(one.significance == 7 && one.year == 0x0809 && one.month == 10 && one.day == 11 && one.hour == 12 && one.minute == 13);
+    EXPECT(one.known == 1 && one.centre == 0x0102 && one.subcentre == 0x0304 && one.master == 5 &&
+           one.local == 6);
+    EXPECT(one.significance == 7 && one.year == 0x0809 && one.month == 10 && one.day == 11 &&
+           one.hour == 12 && one.minute == 13);
     EXPECT(one.second == 14 && one.status == 15 && one.processed == 16);
     EXPECT(buttresk_identification(a.octets + 21, 15).known == 0);
 
@@ -389,23 +427,28 @@ static void fields(void)
 /* Section 4: template 0 has a product field in each of its places, as the Manual lays them out. */
 static void products(void)
 {
-    const uint8_t payload[29] = {0, 3, 0, 0, 1, 2, 4, 0, 0, 0, 0, 0, 11, 0, 0, 1, 2,
-                                 103, 0x81, 0x80, 0, 0, 5, 255, 2, 0x7f, 0xff, 0xff, 0xff};
+    const uint8_t payload[29] = {0, 3, 0,   0,    1,    2, 4, 0, 0,   0, 0,    0,    11,   0,   0,
+                                 1, 2, 103, 0x81, 0x80, 0, 0, 5, 255, 2, 0x7f, 0xff, 0xff, 0xff};
     struct buttresk_product_fields p = buttresk_product_definition(payload, sizeof payload);
     EXPECT(p.known == 1 && p.coordinates == 3 && p.template_number == 0);
-    EXPECT(p.category.known == 1 && p.category.value == 1 && p.number.known == 1 && p.number.value == 2);
+    EXPECT(p.category.known == 1 && p.category.value == 1 && p.number.known == 1 &&
+           p.number.value == 2);
     EXPECT(p.process.known == 1 && p.process.value == 4);
     EXPECT(p.time.known == 1 && p.time.unit == 11 && p.time.time == 0x0102);
-    EXPECT(p.surfaces.known == 1 && p.surfaces.first.type == 103 && p.surfaces.first.factor == -1 && p.surfaces.first.value == -5);
-    EXPECT(p.surfaces.second.type == 255 && p.surfaces.second.factor == 2 && p.surfaces.second.value == 2147483647);
+    EXPECT(p.surfaces.known == 1 && p.surfaces.first.type == 103 && p.surfaces.first.factor == -1 &&
+           p.surfaces.first.value == -5);
+    EXPECT(p.surfaces.second.type == 255 && p.surfaces.second.factor == 2 &&
+           p.surfaces.second.value == 2147483647);
 
     /* an octet less: both surfaces or none; five octets: a category and no number */
     p = buttresk_product_definition(payload, 28);
     EXPECT(p.time.known == 1 && p.surfaces.known == 0);
     p = buttresk_product_definition(payload, 5);
-    EXPECT(p.known == 1 && p.category.known == 1 && p.number.known == 0 && p.process.known == 0 && p.time.known == 0);
+    EXPECT(p.known == 1 && p.category.known == 1 && p.number.known == 0 && p.process.known == 0 &&
+           p.time.known == 0);
     p = buttresk_product_definition(payload, 3);
-    EXPECT(p.known == 0 && p.category.known == 0 && p.number.known == 0 && p.process.known == 0 && p.time.known == 0);
+    EXPECT(p.known == 0 && p.category.known == 0 && p.number.known == 0 && p.process.known == 0 &&
+           p.time.known == 0);
     EXPECT(p.surfaces.known == 0);
 
     /* an unsupported template */

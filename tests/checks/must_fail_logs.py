@@ -1,7 +1,7 @@
 #!/usr/bin/env -S python3 -B
 """Each must-fail edit was refused at a fact that no longer holds; which fact, from the gate's logs.
 
-    tests/must-fail-logs [--contracts]
+    tests/checks/must_fail_logs.py [--contracts]
 
 Run it after the gate, which writes the logs. It fails if an edit changes nothing, or was refused only
 because a proof file no longer fits the code, or because something that it stands on was refused
@@ -15,7 +15,7 @@ import re
 import sys
 from pathlib import Path
 
-ROOT = Path(__file__).resolve().parent.parent
+ROOT = Path(__file__).resolve().parent.parent.parent
 CONTRACTS = ROOT / "docs/CONTRACTS.md"
 ERROR = re.compile(r"^(\S+?):\d+:\d+: error: (?:`([^`]+)`: )?(.*)$", re.M)
 # A function without a proof file of its own: rattle's search no longer closes what it must.

@@ -26,7 +26,7 @@ from pathlib import Path
 
 HERE = Path(__file__).resolve().parent
 REPOSITORY = HERE.parent.parent
-sys.path.insert(0, str(HERE.parent))
+sys.path.insert(0, str(HERE.parent / "lists"))
 
 import files
 from sides import Oracle, Told
@@ -49,7 +49,7 @@ EDGES = [message(b"", total=15), message(b"", total=16),
 TOGETHER = 60           # files in a statement
 
 HEAD = """\
--- Written by tests/oracle/transcription: the answers of the crate grib 0.20.2 itself to {count}
+-- Written by tests/oracle/transcription.py: the answers of the crate grib 0.20.2 itself to {count}
 -- files, which are those of its transcription.
 use Prim.Native.Nat.{{ℕ}}
 use mathlib.Core.Path.{{_≡_, refl}}

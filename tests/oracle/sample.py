@@ -11,7 +11,7 @@ import sys
 from pathlib import Path
 
 TESTS = Path(__file__).resolve().parent.parent
-sys.path[:0] = [str(TESTS / "oracle"), str(TESTS)]
+sys.path[:0] = [str(TESTS / "oracle"), str(TESTS / "lists")]
 
 import files
 import payloads

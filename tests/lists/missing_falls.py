@@ -1,5 +1,5 @@
 #!/usr/bin/env -S python3 -B
-"""The count of missing octets, tried: tests/missing_falls [--files N] [--seed N] target/bin/replay
+"""The count of missing octets, tried: tests/lists/missing_falls.py [--files N] [--seed N] target/bin/replay
 
 Makes random files, cuts each at a random place and asks `replay` for its walk, its pull, its public
 copy and its inventory (kinds `W`, `P`, `C`, `I`). Where one is refused by 2 with detail m, it asks
@@ -19,7 +19,7 @@ import reference
 from reference import LEAST, Section
 from walk_files import END, message, section
 
-RUN = Path(__file__).resolve().parent / "run"
+RUN = Path(__file__).resolve().parent.parent / "run.sh"
 MOST_INPUT = 262144
 KINDS = "WPCI"
 MOST_GROWN = 8              # grown copies of one file

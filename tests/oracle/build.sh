@@ -1,6 +1,6 @@
 #!/bin/sh
 # Builds the oracle: the crate grib's own code behind a driver of ours.
-#   GRIB_SRC=<the crate's folder, with src/ in it> tests/oracle/build OUT
+#   GRIB_SRC=<the crate's folder, with src/ in it> tests/oracle/build.sh OUT
 # makes OUT/oracle. Needs rustc and eccodes' tables (TABLE_4_0=<file> names another code table 4.0). The crate's files are
 # linked to, never copied or edited.
 set -eu

@@ -8,8 +8,8 @@ import time
 from pathlib import Path
 
 import reference
-from command_reading import HEAD, index_of
-from command_run import SAMPLES, check, check_equal, emulated, finish, folder, names_in, run, start, write
+from reading import HEAD, index_of
+from shared import SAMPLES, check, check_equal, emulated, finish, folder, names_in, run, start, write
 from walk_files import A, A117, END, FIRST, least, message, section, whole
 
 MEBIBYTE = 2**20

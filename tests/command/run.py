@@ -1,5 +1,5 @@
 #!/usr/bin/env -S python3 -B
-"""Tests the command: CC=.. RUN=.. tests/command build/buttresk [MODULE..]
+"""Tests the command: CC=.. RUN=.. tests/command/run.py build/buttresk [MODULE..]
 
 Each check is a line; the last line counts them, and the status is 1 if one does not hold. tests/README.md says what is tried.
 """
@@ -9,26 +9,26 @@ import os
 import sys
 import time
 
-import command_run
+import shared
 
 MODULES = ["reading", "listing", "copying", "changing", "errors", "large", "making"]
 
 
 def main(arguments):
-    command_run.need_python()
+    shared.need_python()
     if not arguments or not os.access(arguments[0], os.X_OK):
         print(__doc__, file=sys.stderr)
         return 2
-    command_run.Command.path = os.path.abspath(arguments[0])
-    command_run.Command.emulator = os.environ.get("RUN", "").split()
-    command_run.end_in_time(1800)
+    shared.Command.path = os.path.abspath(arguments[0])
+    shared.Command.emulator = os.environ.get("RUN", "").split()
+    shared.end_in_time(1800)
     for name in arguments[1:] or MODULES:
         begun = time.monotonic()
         print(f"-- {name}", flush=True)
-        importlib.import_module(f"command_{name}").everything()
+        importlib.import_module(name).everything()
         print(f"-- {name}: {time.monotonic() - begun:.0f} s", flush=True)
-    print(command_run.total())
-    return 1 if command_run.counts["not ok"] else 0
+    print(shared.total())
+    return 1 if shared.counts["not ok"] else 0
 
 
 if __name__ == "__main__":
