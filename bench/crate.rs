@@ -1,5 +1,6 @@
-//! The crate's own walk, a number of times over a file in memory: crate FILE TIMES. The crate's files and the stand-ins for those that
-//! are not at hand are those of tests/oracle, which says what is whose.
+//! The crate's own walk, a number of times over a file in memory: crate FILE TIMES. The crate's
+//! files and the stand-ins for those that are not at hand are those of tests/oracle, which says
+//! what is whose.
 mod codetables;
 mod datatypes;
 mod helpers;

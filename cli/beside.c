@@ -1,4 +1,4 @@
-#define _GNU_SOURCE /* O_TMPFILE, MAP_ANONYMOUS */
+#define _GNU_SOURCE /* O_TMPFILE, O_PATH, syncfs */
 #include "beside.h"
 
 #include <errno.h>
@@ -7,7 +7,6 @@
 #include <stdio.h>
 #include <stdlib.h>
 #include <string.h>
-#include <sys/mman.h>
 #include <sys/stat.h>
 #include <sys/wait.h>
 #include <unistd.h>
@@ -17,24 +16,14 @@
 /* Read for all, as the umask says: the copy is the public one. */
 enum { MODE = 0666, TRIES = 100 };
 
-/* A pointer for no octets: the library wants one that is not null. */
-static uint8_t none[1];
-
-/*
- * Reserved behind the map. The library never leaves what it is lent as long as nobody changes the
- * file that it reads; where another process writes to that file between two looks at it, a section
- * may seem to reach further, by under 2^32 octets. A write there then fails, where guard.h catches
- * it, and never comes to memory of another use. A read that goes astray harms nothing: what comes
- * of it is not put in place.
- */
-static const size_t margin = ((size_t)1 << 32) + ((size_t)1 << 20);
-
 /* What the handler of a stopped copy needs: the folder and the name that are to be gone. */
 static volatile sig_atomic_t stray_folder = -1;
 static char stray_name[HIDDEN_ROOM];
 
-static bool fails(const struct beside *b)
+bool beside_fails(struct beside *b, int failure)
 {
+    beside_close(b);
+    errno = failure;
     say_system(b->dest);
     return false;
 }
@@ -48,18 +37,39 @@ static void on_stop(int number)
     raise(number);
 }
 
-/* A file with a name of its own is not to stay when the copy is interrupted. A signal that is
- * ignored stays ignored. */
+/* Whether a signal ends the command where nobody cares for it. SIGKILL can't be cared for, and
+ * SIGBUS and SIGSEGV are guard.h's. */
+static bool ends(int number)
+{
+    switch (number) {
+    case SIGKILL:
+    case SIGBUS:
+    case SIGSEGV:
+    case SIGSTOP:
+    case SIGTSTP:
+    case SIGTTIN:
+    case SIGTTOU:
+    case SIGCONT:
+    case SIGCHLD:
+    case SIGURG:
+    case SIGWINCH:
+        return false;
+    default:
+        return true;
+    }
+}
+
+/* A file with a name of its own is not to stay when the copy is ended. A signal that is ignored
+ * stays ignored. */
 static void remove_when_stopped(const struct beside *b)
 {
-    static const int stops[] = {SIGINT, SIGTERM, SIGHUP};
+    struct sigaction before, action = {.sa_handler = on_stop};
+    sigfillset(&action.sa_mask);
     memcpy(stray_name, b->hidden, HIDDEN_ROOM);
     stray_folder = b->folder;
-    for (size_t i = 0; i < sizeof stops / sizeof stops[0]; i++) {
-        struct sigaction before, action = {.sa_handler = on_stop};
-        sigemptyset(&action.sa_mask);
-        if (sigaction(stops[i], NULL, &before) == 0 && before.sa_handler != SIG_IGN) {
-            sigaction(stops[i], &action, NULL);
+    for (int number = 1; number <= SIGRTMAX; number++) {
+        if (ends(number) && sigaction(number, NULL, &before) == 0 && before.sa_handler != SIG_IGN) {
+            sigaction(number, &action, NULL);
         }
     }
 }
@@ -75,12 +85,14 @@ static bool open_folder(struct beside *b)
     size_t length = slash == NULL ? 0 : (size_t)(slash - b->dest) + 1;
     char *folder = slash == NULL ? strdup(".") : strndup(b->dest, length);
     if (folder == NULL) {
-        return fails(b);
+        return beside_fails(b, errno);
     }
     b->base = b->dest + length;
-    b->folder = open(folder, O_RDONLY | O_DIRECTORY | O_CLOEXEC);
+    /* O_PATH: a folder that may not be listed is good enough to write in. */
+    b->folder = open(folder, O_PATH | O_DIRECTORY | O_CLOEXEC);
+    int failure = errno;
     free(folder);
-    return b->folder >= 0 || fails(b);
+    return b->folder >= 0 || beside_fails(b, failure);
 }
 
 /* The path by which a file without a name is given one. */
@@ -142,80 +154,22 @@ static bool open_file(struct beside *b)
     if (b->fd < 0) {
         b->fd = open_hidden(b);
     }
-    return b->fd >= 0 || fails(b);
-}
-
-static bool has_room(struct beside *b)
-{
-    int failure;
-    do {
-        failure = posix_fallocate(b->fd, 0, (off_t)b->size);
-    } while (failure == EINTR);
-    errno = failure;
-    return failure == 0 || fails(b);
-}
-
-/* The file's octets to be written, or null. */
-static void *map_with_margin(int fd, size_t size)
-{
-    void *room =
-        mmap(NULL, size + margin, PROT_NONE, MAP_PRIVATE | MAP_ANONYMOUS | MAP_NORESERVE, -1, 0);
-    if (room == MAP_FAILED) {
-        return NULL;
-    }
-    void *octets = mmap(room, size, PROT_READ | PROT_WRITE, MAP_SHARED | MAP_FIXED, fd, 0);
-    if (octets == MAP_FAILED) {
-        int failure = errno;
-        munmap(room, size + margin);
-        errno = failure;
-        return NULL;
-    }
-    return octets;
-}
-
-static bool map_octets(struct beside *b, size_t size)
-{
-    if (size == 0) {
-        return true;
-    }
-    b->size = size;
-    if (!has_room(b)) {
-        b->size = 0;
-        return false;
-    }
-    void *octets = map_with_margin(b->fd, size);
-    if (octets == NULL) {
-        b->size = 0;
-        return fails(b);
-    }
-    b->octets = octets;
-    return true;
+    return b->fd >= 0 || beside_fails(b, errno);
 }
 
 bool beside_open(struct beside *b, const char *dest, size_t size)
 {
-    *b = (struct beside){.dest = dest, .folder = -1, .fd = -1, .octets = none};
-    return open_folder(b) && open_file(b) && map_octets(b, size);
-}
-
-bool beside_has(const struct beside *b, const void *address)
-{
-    uintptr_t at = (uintptr_t)address, from = (uintptr_t)b->octets;
-    return at >= from && at - from < b->size;
-}
-
-static void unmap(struct beside *b)
-{
-    if (b->size != 0) {
-        munmap(b->octets, b->size + margin);
+    *b = (struct beside){.dest = dest, .folder = -1, .fd = -1, .room = room_none()};
+    if (!open_folder(b) || !open_file(b)) {
+        return false;
     }
-    b->octets = none;
-    b->size = 0;
+    int failure = room_take(&b->room, b->fd, size);
+    return failure == 0 || beside_fails(b, failure);
 }
 
 int beside_sync(struct beside *b)
 {
-    unmap(b);
+    room_unmap(&b->room);
     return fsync(b->fd) == 0 ? 0 : errno;
 }
 
@@ -310,32 +264,53 @@ static int put_hidden(struct beside *b, bool force)
 }
 
 /* Some file systems have no syncing of a folder, and say EINVAL. */
-static bool sync_folder(const struct beside *b)
+static int sync_opened(int folder)
 {
-    if (fsync(b->folder) == 0 || errno == EINVAL) {
-        return true;
+    int failure = fsync(folder) == 0 || errno == EINVAL ? 0 : errno;
+    close(folder);
+    return failure;
+}
+
+/* A folder that may not be listed can't be opened to be synced: then all of its file system is. */
+static int sync_folder(const struct beside *b)
+{
+    int folder = openat(b->folder, ".", O_RDONLY | O_DIRECTORY | O_CLOEXEC);
+    if (folder >= 0) {
+        return sync_opened(folder);
     }
-    say_failed(b->dest, "is in place and whole, but its folder could not be synced");
-    return fails(b);
+    return syncfs(b->fd) == 0 ? 0 : errno;
 }
 
 bool beside_put(struct beside *b, bool force)
 {
-    errno = b->hidden[0] == '\0' ? put_nameless(b, force) : put_hidden(b, force);
-    return errno == 0 ? sync_folder(b) : fails(b);
+    int failure = b->hidden[0] == '\0' ? put_nameless(b, force) : put_hidden(b, force);
+    if (failure != 0) {
+        return beside_fails(b, failure);
+    }
+    failure = sync_folder(b);
+    if (failure != 0) {
+        say_failed(b->dest, "is in place and whole, but its folder could not be synced");
+        return beside_fails(b, failure);
+    }
+    return true;
+}
+
+static void close_one(int *fd)
+{
+    if (*fd >= 0) {
+        close(*fd);
+    }
+    *fd = -1;
 }
 
 void beside_close(struct beside *b)
 {
-    unmap(b);
+    room_unmap(&b->room);
     if (b->hidden[0] != '\0') {
         unlinkat(b->folder, b->hidden, 0);
         stray_folder = -1;
+        b->hidden[0] = '\0';
     }
-    if (b->fd >= 0) {
-        close(b->fd);
-    }
-    if (b->folder >= 0) {
-        close(b->folder);
-    }
+    close_one(&b->fd);
+    close_one(&b->folder);
 }

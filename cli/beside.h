@@ -7,7 +7,8 @@
 
 #include <stdbool.h>
 #include <stddef.h>
-#include <stdint.h>
+
+#include "room.h"
 
 enum { HIDDEN_ROOM = 48 };
 
@@ -16,27 +17,26 @@ struct beside {
     const char *base; /* its name in its folder */
     int folder;
     int fd;
-    uint8_t *octets; /* mapped to be written; never null */
-    size_t size;
+    struct room room;
     char hidden[HIDDEN_ROOM]; /* the name before it is whole, empty where there is none */
 };
 
-/* Says its own reason, and answers false, if it does not succeed; so does beside_put. The file has
-   all its room on the disk from the start: a disk that is full is told here, and not by a fault in
-   the middle of a call. To be closed also if it could not be opened. */
+/* Says its own reason, and answers false, if it does not succeed; so does beside_put. To be closed
+   also if it could not be opened. */
 bool beside_open(struct beside *b, const char *dest, size_t size);
 
-/* Whether a fault was at this file, and not at the one that is read. */
-bool beside_has(const struct beside *b, const void *address);
-
 /* The octets are on the disk, and can't be written any more: 0, or the system's error number, which
- * is left to be said. */
+   is left to be said. */
 int beside_sync(struct beside *b);
 
 /* The file stands at its destination. An existing one is only replaced with `force`. */
 bool beside_put(struct beside *b, bool force);
 
-/* What was not put is gone. */
+/* What was not put is gone, and its room is free. May be called again. */
 void beside_close(struct beside *b);
+
+/* Closes it, then says the system's reason: what is told may go to the disk that was full. Answers
+   false. */
+bool beside_fails(struct beside *b, int failure);
 
 #endif

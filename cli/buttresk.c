@@ -1,5 +1,5 @@
-/* The command `buttresk`: docs/buttresk.1 says all of it. Here are its arguments, and what holds of
- * all it does. */
+/* The command `buttresk`: docs/buttresk.1 says all of it. Here is what it is asked, and what holds
+   of all it does. */
 #include <fcntl.h>
 #include <signal.h>
 #include <stdbool.h>
@@ -8,165 +8,218 @@
 #include <unistd.h>
 
 #include "commands.h"
+#include "ending.h"
 #include "guard.h"
+#include "into.h"
+#include "jobs.h"
+#include "names.h"
+#include "options.h"
 #include "out.h"
+#include "source.h"
+#include "text.h"
+#include "verbs.h"
 
-#define VERSION "0.1.0"
-
-static const char usage[] = "usage: buttresk index FILE..\n"
-                            "       buttresk fields [--json] FILE..\n"
-                            "       buttresk inventory FILE..\n"
-                            "       buttresk read-list [--json] LIST..\n"
-                            "       buttresk copy [--force] FILE DEST\n"
-                            "       buttresk --help | --version\n";
-
-static const char help[] =
-    "\n"
-    "Reads GRIB edition 2 files by a library whose every answer is proved.\n"
-    "\n"
-    "  index      the sections' places of every submessage, and how the file ends\n"
-    "  fields     a line for every submessage, with its decoded fields; --json: an object\n"
-    "  inventory  a short line for every submessage of a clean file, to be sent back corrected\n"
-    "  read-list  the entries of such a list, which need not be any file's; --json: as objects\n"
-    "  copy       the public copy: the file, with every octet of its values set to zero.\n"
-    "             DEST appears whole or not at all; --force replaces an existing one\n"
-    "\n"
-    "Names that begin with - stand behind --. Exit status: 0 clean; 1 a file or a\n"
-    "list is refused, which standard error tells; 2 wrong usage, or an error of the system.\n";
-
-struct request {
-    bool help, version, json, force;
-    const char *verb; /* null if there is none */
-    char **names;
-    int count;
-};
-
-static enum status wrong_usage(const char *reason, const char *word)
+static void print_usage(FILE *to, const struct verb *verb, const char *before)
 {
-    fprintf(stderr, "buttresk: %s", reason);
-    put_name(stderr, word);
-    fprintf(stderr, "\n%s", usage);
+    for (const char *from = verb->synopsis; from != NULL; before = "       ") {
+        const char *bar = strchr(from, '|');
+        int length = bar == NULL ? (int)strlen(from) : (int)(bar - from);
+        fprintf(to, "%sbuttresk %s %.*s\n", before, verb->name, length, from);
+        from = bar == NULL ? NULL : bar + 1;
+    }
+}
+
+static void print_usages(FILE *to)
+{
+    for (const struct verb *verb = verbs; verb->name != NULL; verb++) {
+        print_usage(to, verb, verb == verbs ? "usage: " : "       ");
+    }
+    fputs("       buttresk [VERB] -h | --help\n       buttresk --version\n", to);
+}
+
+/* The first and the last may be words of the user's; any may be empty. */
+static enum status wrong_usage(const struct verb *verb, const char *first, const char *reason,
+                               const char *last)
+{
+    fputs("buttresk: ", stderr);
+    put_name(stderr, first);
+    fputs(reason, stderr);
+    put_name(stderr, last);
+    putc('\n', stderr);
+    if (verb == NULL) {
+        print_usages(stderr);
+    } else {
+        print_usage(stderr, verb, "usage: ");
+    }
     return FAILED;
 }
 
-/* The flag that a word sets; null if it is none. */
-static bool *flag_of(struct request *r, const char *word)
+static const char general[] =
+    "\n"
+    "A FILE that is `-` is standard input; names that begin with - stand behind --. With\n"
+    "FILE.. and LIST.. also: -j N or --jobs N, N files at once; --files0-from LIST, names from\n"
+    "a list, each ended by a 0 octet. Exit status: 0 clean; 1 a file or a list is refused,\n"
+    "which standard error tells, or has what --strict asks for; 2 wrong usage, or an error of\n"
+    "the system. Of verify and leaks: 0 yes, 1 no.\n";
+
+static void print_help(void)
 {
-    if (strcmp(word, "--help") == 0) {
-        return &r->help;
+    print_usages(stdout);
+    puts("\nReads GRIB edition 2 files by a library whose every answer is proved.\n");
+    for (const struct verb *verb = verbs; verb->name != NULL; verb++) {
+        printf("  %-9s  %s\n", verb->name, verb->does);
     }
-    if (strcmp(word, "--version") == 0) {
-        return &r->version;
-    }
-    if (strcmp(word, "--json") == 0) {
-        return &r->json;
-    }
-    return strcmp(word, "--force") == 0 ? &r->force : NULL;
+    fputs(general, stdout);
 }
 
-static void take_word(struct request *r, char *word)
+static void print_help_of(const struct verb *verb)
 {
-    if (r->verb == NULL) {
-        r->verb = word;
-    } else {
-        r->names[r->count++] = word;
-    }
-}
-
-/* Names are gathered at the front of the arguments themselves: there are never more of them than
- * words already read. */
-static enum status read_arguments(struct request *r, int argc, char **argv)
-{
-    bool options = true;
-    *r = (struct request){.names = argv + 1};
-    for (int i = 1; i < argc; i++) {
-        bool *flag = options ? flag_of(r, argv[i]) : NULL;
-        if (flag != NULL) {
-            *flag = true;
-        } else if (options && strcmp(argv[i], "--") == 0) {
-            options = false;
-        } else if (options && argv[i][0] == '-' && argv[i][1] != '\0') {
-            return wrong_usage("unknown option ", argv[i]);
-        } else {
-            take_word(r, argv[i]);
-        }
-    }
-    return CLEAN;
-}
-
-static enum status highest(enum status a, enum status b)
-{
-    return a > b ? a : b;
-}
-
-enum verb { INDEX, FIELDS, INVENTORY, READ_LIST, COPY, UNKNOWN };
-
-static enum verb verb_of(const char *word)
-{
-    static const char *const verbs[] = {[INDEX] = "index",
-                                        [FIELDS] = "fields",
-                                        [INVENTORY] = "inventory",
-                                        [READ_LIST] = "read-list",
-                                        [COPY] = "copy"};
-    enum verb verb = INDEX;
-    while (verb != UNKNOWN && strcmp(verbs[verb], word) != 0) {
-        verb++;
-    }
-    return verb;
-}
-
-static enum status do_with_file(enum verb verb, const char *name, bool head, bool json)
-{
-    switch (verb) {
-    case FIELDS:
-        return fields_of_file(name, head, json);
-    case INVENTORY:
-        return inventory_of_file(name, head);
-    case READ_LIST:
-        return read_list(name, head, json);
-    default:
-        return index_file(name, head);
+    print_usage(stdout, verb, "usage: ");
+    printf("\n%s: %s\n\n%s", verb->name, verb->does, verb->help);
+    if ((verb->takes & JOBS) != 0) {
+        puts("-j N, --jobs N: N files at once. --files0-from LIST: names from a list, each ended\n"
+             "by a 0 octet.");
     }
 }
 
-/* One file after another, whatever becomes of each, until nobody takes the output. */
-static enum status for_each_file(const struct request *r, enum verb verb)
+/* What each file of a work is asked. */
+struct question {
+    const struct verb *verb;
+    char **names;
+    char **dests; /* of `copy` */
+    struct asked asked;
+};
+
+static enum status ask(int which, const void *with)
 {
-    enum status status = CLEAN;
-    bool head = r->count > 1;
-    for (int i = 0; i < r->count && !ferror(stdout); i++) {
-        status = highest(status, do_with_file(verb, r->names[i], head, r->json));
+    const struct question *q = with;
+    const char *name = q->names[which];
+    return q->verb->way == COPY ? copy_file(name, q->dests[which], q->asked.force)
+                                : q->verb->of_file(name, &q->asked);
+}
+
+/* The reason is said already, and is the end of its file's objects. */
+static enum status tell_lost(int which, const void *with)
+{
+    const struct question *q = with;
+    return tell_failed(q->names[which], &q->asked);
+}
+
+static enum status ask_all(const struct question *q, int count, int jobs)
+{
+    struct work work = {q->names, count, jobs, ask, tell_lost, q};
+    if (q->verb->head != NULL) {
+        q->verb->head(&q->asked);
     }
+    /* A heading stands before what is told of the first file. */
+    enum status status = output_taken() ? work_through(&work) : FAILED;
+    return output_taken() ? status : FAILED;
+}
+
+/* Who gives a list of names does not know how many there are: they go into a folder. */
+static enum status copy_all(struct question *q, int count, int jobs, bool listed)
+{
+    struct into into;
+    /* A pipe that somebody closed is told by the call that fails, and ends no copy. */
+    signal(SIGPIPE, SIG_IGN);
+    bool found = into_find(&into, q->names, count, listed);
+    q->dests = into.dests;
+    enum status status = found ? ask_all(q, into.count, jobs) : FAILED;
+    into_free(&into);
     return status;
 }
 
-static enum status dispatch(const struct request *r)
+static enum status do_with_names(const struct verb *verb, const struct options *o,
+                                 const struct names *names)
 {
-    enum verb verb = verb_of(r->verb);
-    if (verb == UNKNOWN) {
-        return wrong_usage("unknown command ", r->verb);
+    struct question q = {.verb = verb, .names = names->all};
+    q.asked = (struct asked){.several = names->count > 1 || o->files0 != NULL,
+                             .json = (o->given & JSON) != 0,
+                             .strict = (o->given & STRICT) != 0,
+                             .force = (o->given & FORCE) != 0};
+    switch (verb->way) {
+    case COPY:
+        return copy_all(&q, names->count, o->jobs, o->files0 != NULL);
+    case VERIFY:
+        return verify_file(names->all[0], names->all[1]);
+    case LEAKS:
+        return leaks_of_file(names->all[0]);
+    default:
+        return ask_all(&q, names->count, o->jobs);
     }
-    if (r->json && verb != FIELDS && verb != READ_LIST) {
-        return wrong_usage("--json is for fields and read-list, not for ", r->verb);
-    }
-    if (r->force && verb != COPY) {
-        return wrong_usage("--force is for copy, not for ", r->verb);
-    }
-    if (verb == COPY) {
-        return r->count == 2 ? copy_file(r->names[0], r->names[1], r->force)
-                             : wrong_usage("a FILE and a DEST are wanted by ", r->verb);
-    }
-    return r->count > 0 ? for_each_file(r, verb) : wrong_usage("a FILE is wanted by ", r->verb);
 }
 
-static enum status answer(const struct request *r)
+/* Standard input can be read once: by the list of names, or as one file. */
+static bool read_once(const struct names *names, const char *list)
 {
-    if (r->help) {
-        printf("%s%s", usage, help);
-    } else if (r->version) {
-        puts("buttresk " VERSION);
+    int times = list != NULL && is_standard_input(list) ? 1 : 0;
+    for (int i = 0; i < names->count; i++) {
+        times += is_standard_input(names->all[i]) ? 1 : 0;
+    }
+    return times < 2;
+}
+
+static enum status gather_and_do(const struct verb *verb, const struct options *o)
+{
+    struct names names;
+    enum status status = FAILED;
+    if (names_gather(&names, o->files0, o->names, o->count)) {
+        status = read_once(&names, o->files0)
+                     ? do_with_names(verb, o, &names)
+                     : wrong_usage(verb, "", "standard input is asked for twice by ", verb->name);
+    }
+    names_free(&names);
+    return status;
+}
+
+/* With a list of names no other is given, but for the folder that copies go into. */
+static bool names_fit(const struct verb *verb, const struct options *o)
+{
+    if (o->files0 == NULL) {
+        return o->count >= verb->least && o->count <= verb->most;
+    }
+    return o->count == verb->least - 1;
+}
+
+static enum status dispatch(const struct options *o)
+{
+    const struct verb *verb = verb_of(o->verb);
+    if (verb == NULL) {
+        return wrong_usage(NULL, "", "unknown command ", o->verb);
+    }
+    unsigned beyond = o->given & ~(verb->takes | HELP);
+    if (beyond != 0) {
+        return wrong_usage(verb, option_word(beyond), " is not for ", verb->name);
+    }
+    if ((o->given & HELP) != 0) {
+        print_help_of(verb);
+        return output_taken() ? CLEAN : FAILED;
+    }
+    if (!names_fit(verb, o)) {
+        return o->files0 == NULL
+                   ? wrong_usage(verb, verb->wants, " is wanted by ", verb->name)
+                   : wrong_usage(verb, "--files0-from",
+                                 verb->way == COPY ? " wants one FOLDER and no FILE, for "
+                                                   : " has all the names, for ",
+                                 verb->name);
+    }
+    return gather_and_do(verb, o);
+}
+
+static enum status answer(const struct options *o)
+{
+    if (o->wrong != NULL) {
+        return wrong_usage(NULL, "", o->wrong, o->wrong_word);
+    }
+    if (o->verb != NULL) {
+        return dispatch(o);
+    }
+    if ((o->given & HELP) != 0) {
+        print_help();
+    } else if ((o->given & VERSION) != 0) {
+        puts("buttresk " BUTTRESK_VERSION);
     } else {
-        return r->verb == NULL ? wrong_usage("no command", "") : dispatch(r);
+        return wrong_usage(NULL, "", "no command", "");
     }
     return output_taken() ? CLEAN : FAILED;
 }
@@ -185,18 +238,16 @@ static void hold_standard_descriptors(void)
 
 int main(int argc, char **argv)
 {
-    struct request request;
     hold_standard_descriptors();
     /* A line that is told is one write, whoever else writes there. */
     setvbuf(stderr, NULL, _IOLBF, BUFSIZ);
-    /* Both are told by the call that fails, with its reason; and a child is waited for, whatever
-     * was inherited. */
-    signal(SIGPIPE, SIG_IGN);
+    /* A disk's limit is told by the call that fails, with its reason; and a child is waited for,
+       whatever was inherited. */
     signal(SIGXFSZ, SIG_IGN);
     signal(SIGCHLD, SIG_DFL);
     if (!guard_install()) {
         return (int)say_system("SIGBUS and SIGSEGV");
     }
-    enum status status = read_arguments(&request, argc, argv);
-    return (int)(status == CLEAN ? answer(&request) : status);
+    struct options options = read_options(argc, argv);
+    return (int)answer(&options);
 }

@@ -6,6 +6,8 @@
 #include "buttresk.h"
 #include "commands.h"
 #include "guard.h"
+#include "holes.h"
+#include "publish.h"
 #include "source.h"
 #include "watch.h"
 
@@ -22,13 +24,6 @@ static bool is_source(const struct source *source, const char *dest)
            found.st_ino == source->start.st_ino;
 }
 
-/* A name that is empty or ends in a slash can only be a folder's. */
-static bool names_a_file(const char *dest)
-{
-    size_t length = strlen(dest);
-    return length != 0 && dest[length - 1] != '/';
-}
-
 /* Whether something may be put at the destination. A device, a pipe or a link is never replaced. */
 static enum status judge_dest(const struct source *source, const char *dest, bool force)
 {
@@ -37,7 +32,7 @@ static enum status judge_dest(const struct source *source, const char *dest, boo
         return say_failed(dest, "is the file that is to be copied");
     }
     if (lstat(dest, &found) != 0) {
-        return errno == ENOENT && names_a_file(dest) ? CLEAN : say_system(dest);
+        return errno == ENOENT && dest[0] != '\0' ? CLEAN : say_system(dest);
     }
     if (S_ISDIR(found.st_mode)) {
         return system_failure(dest, EISDIR);
@@ -48,88 +43,92 @@ static enum status judge_dest(const struct source *source, const char *dest, boo
     return force ? CLEAN : say_failed(dest, "exists already; --force replaces it");
 }
 
-struct publishing {
-    const struct source *source;
-    struct beside *beside;
-    struct buttresk_store_answer answer;
-};
-
-static void publish(void *with)
+/* The copy is given up, its room is free again, and then it is told why. */
+static enum status give_up(struct beside *beside, const struct source *source, const void *fault)
 {
-    struct publishing *p = with;
-    p->answer =
-        buttresk_publish(p->source->octets, p->source->size, p->beside->octets, p->beside->size);
-}
-
-static enum status say_fault(const struct publishing *p, const void *fault)
-{
-    if (beside_has(p->beside, fault)) {
-        return say_failed(p->beside->dest, "could not be written: its disk is full or fails");
+    bool own = room_has(&beside->room, fault);
+    beside_close(beside);
+    if (own) {
+        return say_failed(beside->dest, "could not be written: its disk is full or fails");
     }
-    source_say_fault(p->source);
+    source_say_fault(source);
     return FAILED;
 }
 
-/* The library's call, and nothing told before the watch has left the terminal. */
-static enum status publish_watched(struct publishing *p)
+static enum status publish_beside(struct publishing *p, struct beside *beside)
 {
-    struct watch watch;
-    const void *fault;
-    watch_start(&watch, p->source, "copying", false);
-    watch_also(&watch, p->beside->octets, p->beside->size);
-    bool ended = guarded(publish, p, &fault);
-    watch_stop(&watch);
-    if (!ended) {
-        return say_fault(p, fault);
+    if (!publish_watched(p)) {
+        return give_up(beside, p->source, p->fault);
     }
+    if (p->answer.outcome == BUTTRESK_DONE) {
+        return CLEAN;
+    }
+    beside_close(beside);
     /* A refusal, too, is only told of a file that is still what it was. */
     return source_same(p->source) ? say_end(p->source->name, END_OF(p->answer)) : FAILED;
 }
 
-static enum status sync_watched(struct publishing *p)
+static void punch(void *with)
 {
-    struct watch watch;
-    watch_start(&watch, p->source, "syncing", false);
-    int failure = beside_sync(p->beside);
-    watch_stop(&watch);
-    return failure == 0 ? CLEAN : system_failure(p->beside->dest, failure);
+    const struct beside *beside = with;
+    holes_punch(beside->fd, beside->room.octets, beside->room.size);
 }
 
-static enum status copy_beside(struct publishing *p, bool force)
+static enum status punch_watched(struct beside *beside, const struct source *source)
 {
-    enum status status = publish_watched(p);
+    struct watch watch;
+    const void *fault;
+    watch_start(&watch, source, "copying", false);
+    watch_also(&watch, beside->room.octets, beside->room.size);
+    bool ended = guarded(punch, beside, &fault);
+    watch_stop(&watch);
+    return ended ? CLEAN : give_up(beside, source, fault);
+}
+
+static enum status sync_watched(struct beside *beside, const struct source *source)
+{
+    struct watch watch;
+    watch_start(&watch, source, "syncing", false);
+    int failure = beside_sync(beside);
+    watch_stop(&watch);
+    return failure == 0 || beside_fails(beside, failure) ? CLEAN : FAILED;
+}
+
+static enum status copy_beside(struct publishing *p, struct beside *beside, bool force)
+{
+    enum status status = publish_beside(p, beside);
     if (status == CLEAN) {
-        status = sync_watched(p);
+        status = punch_watched(beside, p->source);
+    }
+    if (status == CLEAN) {
+        status = sync_watched(beside, p->source);
     }
     if (status != CLEAN) {
         return status;
     }
     /* Last of all, so that as little time as can be lies between the look at the file and the copy
-     * in place. */
-    return source_same(p->source) && beside_put(p->beside, force) ? CLEAN : FAILED;
-}
-
-/* Asked before room is asked of the disk: a destination of no octets is refused as too short only
- * after this. */
-static bool is_too_long(const struct source *source, struct buttresk_store_answer *answer)
-{
-    uint8_t none[1];
-    *answer = buttresk_publish(source->octets, source->size, none, 0);
-    return answer->outcome == BUTTRESK_FILE_TOO_LONG;
+     * in place. What a copy in vain had taken of the disk is given back before it is said. */
+    const char *reason = source_changed(p->source);
+    if (reason != NULL) {
+        beside_close(beside);
+        return say_failed(p->source->name, reason);
+    }
+    return beside_put(beside, force) ? CLEAN : FAILED;
 }
 
 static enum status copy_source(const struct source *source, const char *dest, bool force)
 {
     struct beside beside;
-    struct publishing publishing = {.source = source, .beside = &beside};
+    struct publishing publishing = {.source = source, .room = &beside.room};
     enum status status = judge_dest(source, dest, force);
     if (status != CLEAN) {
         return status;
     }
-    if (is_too_long(source, &publishing.answer)) {
-        return say_end(source->name, END_OF(publishing.answer));
+    if (source->too_long) {
+        return source_refuse(source);
     }
-    status = beside_open(&beside, dest, source->size) ? copy_beside(&publishing, force) : FAILED;
+    status = beside_open(&beside, dest, source->size) ? copy_beside(&publishing, &beside, force)
+                                                      : FAILED;
     beside_close(&beside);
     return status;
 }
@@ -137,10 +136,7 @@ static enum status copy_source(const struct source *source, const char *dest, bo
 enum status copy_file(const char *name, const char *dest, bool force)
 {
     struct source source;
-    if (!source_open(&source, name)) {
-        return FAILED;
-    }
-    enum status status = copy_source(&source, dest, force);
+    enum status status = source_open(&source, name) ? copy_source(&source, dest, force) : FAILED;
     source_close(&source);
     return status;
 }

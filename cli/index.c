@@ -3,19 +3,22 @@
 #include <stdio.h>
 
 #include "commands.h"
+#include "ending.h"
+#include "json.h"
 #include "out.h"
-#include "source.h"
-#include "tables.h"
 
 /* Two places can be none: there may be no section 2, and the message may go on. */
+static bool is_there(const uint64_t *line, int number)
+{
+    return !(number == 2 && line[HAS_LOCAL] == 0) && !(number == 8 && line[CLOSED] == 0);
+}
+
 static void print_place(const uint64_t *line, int number)
 {
-    if (number == 2 && line[HAS_LOCAL] == 0) {
-        fputs(" -", stdout);
-    } else if (number == 8 && line[CLOSED] == 0) {
-        fputs(" open", stdout);
-    } else {
+    if (is_there(line, number)) {
         printf(" %" PRIu64, line[PLACES + number]);
+    } else {
+        fputs(number == 2 ? " -" : " open", stdout);
     }
 }
 
@@ -28,7 +31,7 @@ static void print_line(const uint64_t *line)
     printf(" %" PRIu64 " %" PRIu64 "\n", line[OFFSET], line[TOTAL]);
 }
 
-static void print_index(const struct tables *t)
+static void print_lines(const struct tables *t)
 {
     const struct buttresk_walk_answer *a = &t->answer;
     printf("sections %" PRIu64 " submessages %" PRIu64 " messages %" PRIu64 "\n", a->sections,
@@ -41,36 +44,68 @@ static void print_index(const struct tables *t)
            a->detail);
 }
 
-/* Who re-requests a cut file has to know where its rest starts; the detail says how many octets
-   that is at least. */
-static enum status say_ended(const struct source *source, const struct buttresk_walk_answer *a)
+static void print_sections_as_json(const struct tables *t, const char *file)
 {
-    enum status status = say_end(source->name, END_OF(*a));
-    if (a->outcome == BUTTRESK_CUT) {
-        say_rest_starts(source->name, source->size);
+    for (uint64_t place = 0; place < t->answer.sections && !ferror(stdout); place++) {
+        struct row row = tables_row(t, place);
+        json_begin("section", file);
+        json_number("place", place);
+        json_number("number", row.number);
+        json_number("offset", row.offset);
+        json_number("length", row.length);
+        json_end();
     }
-    return status;
 }
 
-static enum status print_walked(const struct source *source, const struct tables *tables, bool head)
+static void print_places_as_json(const uint64_t *line)
 {
-    if (head) {
-        print_file_line(source->name);
+    json_key("places");
+    for (int number = 0; number <= 8; number++) {
+        putchar(number == 0 ? '[' : ',');
+        if (is_there(line, number)) {
+            printf("%" PRIu64, line[PLACES + number]);
+        } else {
+            fputs("null", stdout);
+        }
     }
-    print_index(tables);
-    return output_taken() ? say_ended(source, &tables->answer) : FAILED;
+    putchar(']');
 }
 
-enum status index_file(const char *name, bool head)
+static void print_line_as_json(const uint64_t *line, const char *file)
 {
-    struct source source;
-    struct tables tables;
-    if (!source_open(&source, name)) {
-        return FAILED;
+    json_begin("submessage", file);
+    json_number("message", line[MESSAGE]);
+    json_number("submessage", line[SUBMESSAGE]);
+    json_number("offset", line[OFFSET]);
+    json_number("length", line[TOTAL]);
+    json_bool("closed", line[CLOSED] != 0);
+    print_places_as_json(line);
+    json_end();
+}
+
+static void print_as_json(const struct tables *t, const char *file)
+{
+    print_sections_as_json(t, file);
+    for (uint64_t i = 0; i < t->answer.submessages && !ferror(stdout); i++) {
+        print_line_as_json(tables_line(t, i), file);
     }
-    bool walked = tables_walk(&tables, &source);
-    enum status status = walked ? print_walked(&source, &tables, head) : FAILED;
-    tables_free(&tables);
-    source_close(&source);
-    return status;
+}
+
+static bool print_index(const struct source *source, const struct tables *tables,
+                        const struct asked *asked)
+{
+    if (asked->json) {
+        print_as_json(tables, source->name);
+    } else {
+        if (asked->several) {
+            print_file_line(source->name);
+        }
+        print_lines(tables);
+    }
+    return true;
+}
+
+enum status index_file(const char *name, const struct asked *asked)
+{
+    return walk_and_print(name, asked, print_index);
 }

@@ -39,34 +39,36 @@ static bool text_fits(const void *with)
 
 /* A refused file has no lines, not even the one with its name: no lines behind a name say that a
  * file has no submessage. */
-static enum status print_listed(const struct listing *l, bool head)
+static enum status print_listed(const struct listing *l, bool several)
 {
     const struct buttresk_store_answer *a = &l->answer;
     if (a->outcome != BUTTRESK_DONE) {
         return say_end(l->source->name, END_OF(*a));
     }
-    if (head) {
+    if (several) {
         print_file_line(l->source->name);
     }
-    /* so large a write is made at once, and its reason is not kept for the flush */
-    if (fwrite(l->text, 1, a->written, stdout) != a->written) {
-        return say_system("standard output");
-    }
-    return output_taken() ? CLEAN : FAILED;
+    return print_all(l->text, a->written) && output_taken() ? CLEAN : FAILED;
 }
 
-enum status inventory_of_file(const char *name, bool head)
+static enum status list_source(const struct source *source, bool several)
 {
     static const struct growing growing = {"walking", "there is no memory for its inventory",
                                            lend_text, list_lines, text_fits};
-    struct source source;
-    struct listing listing = {.source = &source};
-    if (!source_open(&source, name)) {
-        return FAILED;
+    struct listing listing = {.source = source};
+    if (source->too_long) {
+        return source_refuse(source);
     }
     enum status status =
-        answered(&growing, &listing, &source) ? print_listed(&listing, head) : FAILED;
+        answered(&growing, &listing, source) ? print_listed(&listing, several) : FAILED;
     free(listing.text);
+    return status;
+}
+
+enum status inventory_of_file(const char *name, const struct asked *asked)
+{
+    struct source source;
+    enum status status = source_open(&source, name) ? list_source(&source, asked->several) : FAILED;
     source_close(&source);
     return status;
 }

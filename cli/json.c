@@ -1,79 +1,87 @@
 #include "json.h"
 
-#include <stdbool.h>
-#include <stdint.h>
+#include <inttypes.h>
+#include <stdio.h>
 
-static bool continues(unsigned char octet)
-{
-    return (octet & 0xc0) == 0x80;
-}
+#include "text.h"
 
-/* How many octets the first has after it by its own word; 0 for none that starts a longer
- * character. */
-static int more_octets(unsigned char first)
-{
-    if (first >= 0xc2 && first <= 0xdf) {
-        return 1;
-    }
-    if (first >= 0xe0 && first <= 0xef) {
-        return 2;
-    }
-    return first >= 0xf0 && first <= 0xf4 ? 3 : 0;
-}
-
-/* Neither a longer spelling than needed, nor a surrogate, nor above 10ffff. */
-static bool second_fits(unsigned char first, unsigned char second)
-{
-    return !(first == 0xe0 && second < 0xa0) && !(first == 0xed && second > 0x9f) &&
-           !(first == 0xf0 && second < 0x90) && !(first == 0xf4 && second > 0x8f);
-}
-
-/* Octets of the character of UTF-8 that starts here; 0 if none does. A 0 octet ends the text and
- * continues nothing. */
-static int character(const unsigned char *at)
-{
-    int more = more_octets(at[0]);
-    for (int i = 1; i <= more; i++) {
-        if (!continues(at[i])) {
-            return 0;
-        }
-    }
-    return more != 0 && second_fits(at[0], at[1]) ? more + 1 : 0;
-}
-
-static void put_ascii(FILE *to, unsigned char octet)
+static void put_ascii(unsigned char octet)
 {
     if (octet == '"' || octet == '\\') {
-        fprintf(to, "\\%c", octet);
-    } else if (octet < 0x20 || octet == 0x7f) {
-        fprintf(to, "\\u%04x", octet);
+        printf("\\%c", octet);
+    } else if (is_control(&octet, 1)) {
+        printf("\\u%04x", octet);
     } else {
-        putc(octet, to);
+        putchar(octet);
     }
 }
 
 /* Answers how many octets it put. */
-static int put_next(FILE *to, const unsigned char *at)
+static int put_next(const unsigned char *at)
 {
     int octets = character(at);
-    if (octets != 0) {
-        fwrite(at, 1, (size_t)octets, to);
-        return octets;
+    if (octets == 0) {
+        if (at[0] < 0x80) {
+            put_ascii(at[0]);
+        } else {
+            printf("\\udc%02x", at[0]);
+        }
+        return 1;
     }
-    if (at[0] < 0x80) {
-        put_ascii(to, at[0]);
+    if (is_control(at, octets)) {
+        printf("\\u00%02x", at[1]);
     } else {
-        fprintf(to, "\\udc%02x", at[0]);
+        fwrite(at, 1, (size_t)octets, stdout);
     }
-    return 1;
+    return octets;
 }
 
-void put_json_string(FILE *to, const char *text)
+static void put_string(const char *text)
 {
     const unsigned char *at = (const unsigned char *)text;
-    putc('"', to);
+    putchar('"');
     while (*at != 0) {
-        at += put_next(to, at);
+        at += put_next(at);
     }
-    putc('"', to);
+    putchar('"');
+}
+
+void json_begin(const char *kind, const char *file)
+{
+    printf("{\"kind\":\"%s\"", kind);
+    json_string("file", file);
+}
+
+void json_key(const char *key)
+{
+    printf(",\"%s\":", key);
+}
+
+void json_number(const char *key, uint64_t value)
+{
+    json_key(key);
+    printf("%" PRIu64, value);
+}
+
+void json_bool(const char *key, bool value)
+{
+    json_key(key);
+    fputs(value ? "true" : "false", stdout);
+}
+
+void json_null(const char *key)
+{
+    json_key(key);
+    fputs("null", stdout);
+}
+
+void json_string(const char *key, const char *text)
+{
+    json_key(key);
+    put_string(text);
+}
+
+void json_end(void)
+{
+    puts("}");
 }

@@ -4,6 +4,7 @@
 #include <stdio.h>
 
 #include "say.h"
+#include "text.h"
 
 void print_file_line(const char *name)
 {
@@ -12,16 +13,36 @@ void print_file_line(const char *name)
     putchar('\n');
 }
 
-bool output_taken(void)
+/* What standard output does not take is told once, and then it is over. */
+static bool over;
+
+/* Who closes a pipe has read enough: that needs no words. */
+static bool fails(int failure)
 {
-    errno = 0;
-    if (fflush(stdout) == 0 && !ferror(stdout)) {
-        return true;
-    }
-    if (errno != 0) {
-        say_system("standard output");
-    } else {
+    over = true;
+    errno = failure;
+    if (failure == 0) {
         say_failed("standard output", "could not be written");
+    } else if (failure != EPIPE) {
+        say_system("standard output");
     }
     return false;
+}
+
+bool output_taken(void)
+{
+    if (over) {
+        return false;
+    }
+    errno = 0;
+    return (fflush(stdout) == 0 && !ferror(stdout)) || fails(errno);
+}
+
+bool print_all(const void *octets, size_t size)
+{
+    if (over) {
+        return false;
+    }
+    errno = 0;
+    return fwrite(octets, 1, size, stdout) == size || fails(errno);
 }

@@ -5,10 +5,12 @@
 
 #include "buttresk.h"
 #include "commands.h"
+#include "ending.h"
 #include "growing.h"
 #include "json.h"
 #include "out.h"
 #include "source.h"
+#include "text.h"
 
 enum { FIRST_ENTRIES = 1024 };
 
@@ -16,7 +18,7 @@ enum { FIRST_ENTRIES = 1024 };
  * there is one, for those that can be none. */
 enum { ALWAYS = -1, COLUMNS = 7 };
 
-static const struct column {
+static const struct entry_column {
     const char *name;
     int known;
     int value;
@@ -53,7 +55,7 @@ static bool entries_fit(const void *with)
     return ((const struct reading *)with)->answer.outcome != BUTTRESK_SUBMESSAGE_TABLE_FULL;
 }
 
-static void print_value(const uint64_t *entry, const struct column *c, const char *none)
+static void print_value(const uint64_t *entry, const struct entry_column *c, const char *none)
 {
     if (c->known != ALWAYS && entry[c->known] == 0) {
         fputs(none, stdout);
@@ -62,17 +64,24 @@ static void print_value(const uint64_t *entry, const struct column *c, const cha
     }
 }
 
-static void print_head(void)
+void read_list_head(const struct asked *asked)
 {
-    fputs("submessage", stdout);
+    if (asked->json) {
+        return;
+    }
+    fputs(asked->several ? "file\tsubmessage" : "submessage", stdout);
     for (int i = 0; i < COLUMNS; i++) {
         printf("\t%s", columns[i].name);
     }
     putchar('\n');
 }
 
-static void print_table_line(const uint64_t *entry)
+static void print_table_line(const uint64_t *entry, const char *file)
 {
+    if (file != NULL) {
+        put_name(stdout, file);
+        putchar('\t');
+    }
     printf("%" PRIu64 ".%" PRIu64, entry[0], entry[1]);
     for (int i = 0; i < COLUMNS; i++) {
         putchar('\t');
@@ -81,58 +90,67 @@ static void print_table_line(const uint64_t *entry)
     putchar('\n');
 }
 
-static void print_object(const char *name, const uint64_t *entry)
+static void print_object(const uint64_t *entry, const char *file)
 {
-    fputs("{\"file\":", stdout);
-    put_json_string(stdout, name);
-    printf(",\"message\":%" PRIu64 ",\"submessage\":%" PRIu64, entry[0], entry[1]);
+    json_begin("entry", file);
+    json_number("message", entry[0]);
+    json_number("submessage", entry[1]);
     for (int i = 0; i < COLUMNS; i++) {
-        printf(",\"%s\":", columns[i].name);
+        json_key(columns[i].name);
         print_value(entry, &columns[i], "null");
     }
-    puts("}");
+    json_end();
 }
 
-static void print_entries(const struct reading *r, bool json)
+static void print_end(const struct reading *r)
 {
+    json_begin("end", r->source->name);
+    json_outcome(END_OF(r->answer));
+    json_number("octets", r->source->size);
+    json_number("entries", r->answer.entries);
+    json_end();
+}
+
+static void print_entries(const struct reading *r, const struct asked *asked)
+{
+    const char *file = r->source->name;
     for (uint64_t i = 0; i < r->answer.entries && !ferror(stdout); i++) {
         const uint64_t *entry = r->entries + i * BUTTRESK_ENTRY;
-        if (json) {
-            print_object(r->source->name, entry);
+        if (asked->json) {
+            print_object(entry, file);
         } else {
-            print_table_line(entry);
+            print_table_line(entry, asked->several ? file : NULL);
         }
     }
 }
 
 /* Of a refused list the entries before the line that is refused are printed. */
-static enum status print_list(const struct reading *r, bool head, bool json)
+static enum status print_list(const struct reading *r, const struct asked *asked)
 {
-    const struct buttresk_list_answer *a = &r->answer;
-    if (!json) {
-        if (head) {
-            print_file_line(r->source->name);
-        }
-        print_head();
+    print_entries(r, asked);
+    if (asked->json) {
+        print_end(r);
     }
-    print_entries(r, json);
-    if (!output_taken()) {
-        return FAILED;
-    }
-    return say_end(r->source->name, END_OF(*a));
+    return output_taken() ? say_end(r->source->name, END_OF(r->answer)) : FAILED;
 }
 
-enum status read_list(const char *name, bool head, bool json)
+static bool read_source(struct reading *reading, const struct source *source)
 {
     static const struct growing growing = {"reading", "there is no memory for its entries",
                                            lend_entries, read_lines, entries_fit};
+    if (source->too_long) {
+        say_failed(source->name, "is over 2^40 octets");
+        return false;
+    }
+    return answered(&growing, reading, source);
+}
+
+enum status read_list(const char *name, const struct asked *asked)
+{
     struct source source;
     struct reading reading = {.source = &source};
-    if (!source_open(&source, name)) {
-        return FAILED;
-    }
-    enum status status =
-        answered(&growing, &reading, &source) ? print_list(&reading, head, json) : FAILED;
+    bool read = source_open(&source, name) && read_source(&reading, &source);
+    enum status status = read ? print_list(&reading, asked) : tell_failed(name, asked);
     free(reading.entries);
     source_close(&source);
     return status;

@@ -1,80 +1,37 @@
-/* What the command tells on standard error. The refusals are those of documents 01 and 02, in their
- * order. */
+/* What the command tells on standard error. The words of an outcome are the header's. */
 #include "say.h"
 
 #include <errno.h>
+#include <stdio.h>
 #include <string.h>
 
-#include "buttresk.h"
+#include "text.h"
 
-struct refusal {
-    const char *name;
-    const char *means;
-    /* what the detail is; null where it is 0 and says nothing, and of cut, whose detail has words
-     * of its own */
-    const char *detail;
-};
+static const struct buttresk_outcome_words unknown = {
+    "unknown", "a number that this command does not know", NULL};
 
-static const struct refusal refusals[] = {
-    {"done", "a clean end", NULL},
-    {"file too long", "the file is over 2^40 octets", NULL},
-    {"cut",
-     "1 to 4 octets are left for a header, 1 to 3 for a section 8, or the payload of a section 1 "
-     "to 6 is cut",
-     NULL},
-    {"other edition", "the edition is not 2", "the edition"},
-    {"total under 16", "the total length of a message is under 16", NULL},
-    {"no end mark", "a section 8 is not \"7777\"", NULL},
-    {"length under 5", "a section's length is under 5", "the length"},
-    {"unknown number", "the number in a header is not 1 to 7", "the number"},
-    {"payload under least", "a payload is under its section's least", "the payload's size"},
-    {"longer than the rest", "a section is longer than what is left of its message",
-     "the section's length"},
-    {"input over", "the file is over inside a message", NULL},
-    {"misplaced", "a section of this number can't come next", "the number"},
-    {"no grid", "a section 4 right after a section 1: there is no grid definition", "the number"},
-    {"section table full", "a row is due, and the section table is full", NULL},
-    {"submessage table full", "a line is due, and the submessage table is full", NULL},
-    {"too many sections", "the plan has over 4,096 sections", NULL},
-    {"not one message", "the plan's numbers are not one message", "the place in the plan"},
-    {"outside the store", "a payload reaches beyond the store", "the place in the plan"},
-    {"payload size", "a payload is under its section's least, or over 4,294,967,290",
-     "the place in the plan"},
-    {"no room",
-     "the destination is shorter than what is to be written, or that is over 2^40 octets", NULL},
-    {"text too small", "the text of an inventory is longer than its buffer", NULL},
-    {"line not in form", "a line is not in the inventory's form, or no line feed closes it",
-     "the line's number, from 1"},
-};
-
-static const struct refusal unknown = {"unknown", "a number that documents 01 and 02 do not have",
-                                       NULL};
-
-static const struct refusal *refusal_of(uint64_t outcome)
+static const struct buttresk_outcome_words *words_of(uint64_t outcome)
 {
-    return outcome < sizeof refusals / sizeof refusals[0] ? &refusals[outcome] : &unknown;
+    const struct buttresk_outcome_words *words = buttresk_words_of_outcome(outcome);
+    return words != NULL ? words : &unknown;
 }
 
-static void put_octet(FILE *to, unsigned char octet)
+const char *outcome_name(uint64_t outcome)
 {
-    if (octet == '\n') {
-        fputs("\\n", to);
-    } else if (octet == '\t') {
-        fputs("\\t", to);
-    } else if (octet == '\\') {
-        fputs("\\\\", to);
-    } else if (octet < 0x20 || octet == 0x7f) {
-        fprintf(to, "\\x%02x", octet);
-    } else {
-        putc(octet, to);
-    }
+    return words_of(outcome)->name;
 }
 
-void put_name(FILE *to, const char *name)
+const char *outcome_means(uint64_t outcome)
 {
-    for (; *name != '\0'; name++) {
-        put_octet(to, (unsigned char)*name);
-    }
+    return words_of(outcome)->means;
+}
+
+/* The reason that was said last. */
+static char failure[256];
+
+const char *last_failure(void)
+{
+    return failure;
 }
 
 static void start(const char *name)
@@ -86,6 +43,7 @@ static void start(const char *name)
 
 enum status say_failed(const char *name, const char *reason)
 {
+    snprintf(failure, sizeof failure, "%s", reason);
     start(name);
     fprintf(stderr, "%s\n", reason);
     return FAILED;
@@ -105,7 +63,7 @@ static void put_missing(uint64_t octets)
 
 static void put_detail(uint64_t outcome, uint64_t detail)
 {
-    const char *is = refusal_of(outcome)->detail;
+    const char *is = words_of(outcome)->detail;
     if (outcome == BUTTRESK_CUT) {
         put_missing(detail);
     } else if (is != NULL) {
@@ -115,13 +73,13 @@ static void put_detail(uint64_t outcome, uint64_t detail)
 
 enum status say_end(const char *name, struct end end)
 {
-    const struct refusal *refusal = refusal_of(end.outcome);
+    const struct buttresk_outcome_words *words = words_of(end.outcome);
     if (end.outcome == BUTTRESK_DONE) {
         return CLEAN;
     }
     start(name);
     fprintf(stderr, "refused by %ju (%s): %s; place %ju, offset %ju, detail %ju",
-            (uintmax_t)end.outcome, refusal->name, refusal->means, (uintmax_t)end.place,
+            (uintmax_t)end.outcome, words->name, words->means, (uintmax_t)end.place,
             (uintmax_t)end.offset, (uintmax_t)end.detail);
     put_detail(end.outcome, end.detail);
     putc('\n', stderr);
@@ -133,4 +91,27 @@ void say_rest_starts(const char *name, uint64_t octet)
     start(name);
     fprintf(stderr, "a re-request has to start at octet %ju, counted from 0, where the file ends\n",
             (uintmax_t)octet);
+}
+
+static const char *octets_stand(uint64_t octets)
+{
+    return octets == 1 ? "octet stands" : "octets stand";
+}
+
+void say_outside(const char *name, uint64_t octets, bool walked_all)
+{
+    start(name);
+    fprintf(stderr, "%ju %s outside messages%s\n", (uintmax_t)octets, octets_stand(octets),
+            walked_all ? "" : ", before the refusal");
+}
+
+void say_no_message(const char *name, uint64_t octets)
+{
+    start(name);
+    if (octets == 0) {
+        fputs("there is no message: the file is empty\n", stderr);
+    } else {
+        fprintf(stderr, "there is no message: %ju %s outside messages\n", (uintmax_t)octets,
+                octets_stand(octets));
+    }
 }

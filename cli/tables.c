@@ -52,7 +52,27 @@ bool tables_walk(struct tables *tables, const struct source *source)
                                            lend_tables, walk, tables_fit};
     struct walking walking = {tables, source};
     *tables = (struct tables){0};
+    if (source->too_long) {
+        tables->answer.outcome = BUTTRESK_FILE_TOO_LONG;
+        return source_same(source);
+    }
     return answered(&growing, &walking, source);
+}
+
+/* Sections of one message stand end to end, so what lies between two of them is outside.
+   The walk of a refused file came to where it is refused, or, if the section there is listed,
+   behind that. */
+uint64_t tables_outside(const struct tables *tables, const struct source *source)
+{
+    const struct buttresk_walk_answer *a = &tables->answer;
+    uint64_t outside = 0, end = 0;
+    for (uint64_t place = 0; place < a->sections; place++) {
+        struct row row = tables_row(tables, place);
+        outside += row.offset - end;
+        end = row.offset + row.length;
+    }
+    uint64_t reached = a->outcome == BUTTRESK_DONE ? source->size : a->offset;
+    return reached > end ? outside + (reached - end) : outside;
 }
 
 struct row tables_row(const struct tables *tables, uint64_t place)

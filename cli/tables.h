@@ -32,6 +32,10 @@ enum column { MESSAGE, SUBMESSAGE, HAS_LOCAL, CLOSED, PLACES, OFFSET = PLACES + 
    may be a refusal, of 13 and 14 neither. The tables are to be freed either way. */
 bool tables_walk(struct tables *tables, const struct source *source);
 
+/* Octets that no listed section holds, up to the end of a clean file and up to where another is
+   refused. */
+uint64_t tables_outside(const struct tables *tables, const struct source *source);
+
 struct row tables_row(const struct tables *tables, uint64_t place);
 const uint64_t *tables_line(const struct tables *tables, uint64_t which);
 void tables_free(struct tables *tables);

@@ -8,8 +8,15 @@
 #include <sys/mman.h>
 #include <unistd.h>
 
+#include "text.h"
+
 /* Memory that is read at some 3 GB in a second comes to 15 MB at this pace. */
-enum { PACE_MILLISECONDS = 5, SHOWN_AFTER_MILLISECONDS = 1000, NAME_WIDTH = 40 };
+enum {
+    PACE_MILLISECONDS = 5,
+    SHOWN_AFTER_MILLISECONDS = 1000,
+    SHOWN_EACH_MILLISECONDS = 250,
+    NAME_WIDTH = 40
+};
 
 static long elapsed(const struct watch *watch)
 {
@@ -40,18 +47,26 @@ static void hand_back_pages(const void *map, size_t size)
     }
 }
 
-/* The end of a name tells most. It is for the eye alone, so what would spoil the line becomes a
- * question mark. */
+/* The end of a name tells most. It is for the eye alone, so what would spoil the line, or is no
+   part of a character, becomes a question mark. */
 static void label_of(const char *name, char label[NAME_WIDTH + 1])
 {
-    size_t length = strlen(name);
+    size_t length = strlen(name), put = 0;
     const char *from = length > NAME_WIDTH ? name + length - NAME_WIDTH : name;
-    size_t i = 0;
-    for (; from[i] != '\0'; i++) {
-        unsigned char octet = (unsigned char)from[i];
-        label[i] = octet < 0x20 || octet == 0x7f ? '?' : from[i];
+    const unsigned char *at = (const unsigned char *)from;
+    while (*at != '\0') {
+        int octets = character(at);
+        bool shows = !is_control(at, octets) && (octets != 0 || *at < 0x80);
+        octets = octets == 0 ? 1 : octets;
+        if (shows) {
+            memcpy(label + put, at, (size_t)octets);
+        } else {
+            label[put] = '?';
+        }
+        put += shows ? (size_t)octets : 1;
+        at += octets;
     }
-    label[i] = '\0';
+    label[put] = '\0';
 }
 
 static void show(struct watch *watch)
@@ -80,7 +95,7 @@ static void *run(void *with)
         hand_back_pages(watch->also, watch->also_size);
         if (shows && !watch->over && elapsed(watch) >= shown_at) {
             show(watch);
-            shown_at = elapsed(watch) + 250;
+            shown_at = elapsed(watch) + SHOWN_EACH_MILLISECONDS;
         }
     }
     pthread_mutex_unlock(&watch->lock);

@@ -1,7 +1,8 @@
 #!/usr/bin/env -S python3 -B
-"""Every public function that answers is promised: its contract stands in crates/promises/specs/Public.antt.
+"""Every public function that answers is promised: its contract stands in Public.antt.
 
-A function that answers nothing, and is lent nothing to write, has nothing to promise: it only prints.
+That is crates/promises/specs/Public.antt. A function that answers nothing, and is lent nothing to
+write, has nothing to promise: it only prints.
 """
 
 import re
@@ -15,7 +16,8 @@ TYPE = re.compile(r"^impl(?:<[^>]*>)? (\w+)", re.M)
 
 
 def public_functions(source):
-    """Names of the functions that other crates may call and that answer or write, with their type's name before them."""
+    """Names of the functions that other crates may call and that answer or write, with their type's
+    name before them."""
     for found in FUNCTION.finditer(source):
         body = source.index("{\n", source.index(")", found.end()))
         signature = source[found.end():body]
@@ -35,8 +37,10 @@ def main():
             path = name if crate == "sections" and "." in name else f"{crate}.{name}"
             if path not in promised:
                 missing.append(path)
-    print(*(f"not promised: {path}" for path in missing), f"{count} public functions, {len(missing)} not promised", sep="\n")
-    return 1 if missing else 0
+    counts = f"{count} public functions, {len(missing)} not promised"
+    print(*(f"not promised: {path}" for path in missing), counts, sep="\n")
+    return 0 if count and not missing else 1
 
 
-sys.exit(main())
+if __name__ == "__main__":
+    sys.exit(main())

@@ -1,7 +1,8 @@
 #!/usr/bin/env -S python3 -B
-"""The reading path of docs/ARCHITECTURE.md is short: its files have at most 1,500 lines in all, and the page at most 120.
+"""The reading path of docs/ARCHITECTURE.md is short.
 
-It fails if they have more, or if a file that the path names is not there.
+Its files have at most 1,500 lines in all, and the page at most 120. It fails if they have more, or
+if a file that the path names is not there.
 """
 
 import re
@@ -19,11 +20,16 @@ def lines(name):
 
 def main():
     text = (ROOT / "docs/ARCHITECTURE.md").read_text()
-    path = text.split("## What to read", 1)[1].split("The page cites more", 1)[0]
+    path = text.partition("## What to read")[2].partition("The page cites more")[0]
     names = re.findall(r"`(crates/[\w./]+\.antt)`", path)
+    missing = [name for name in [*names, PAGE] if not (ROOT / name).is_file()]
+    if missing or not names:
+        print(*(f"no file: {name}" for name in missing), f"{len(names)} files", sep="\n")
+        return 1
     total = sum(map(lines, names))
     print(f"{len(names)} files, {total} lines; the page {lines(PAGE)}")
-    return 0 if names and total <= MOST and lines(PAGE) <= MOST_OF_PAGE else 1
+    return 0 if total <= MOST and lines(PAGE) <= MOST_OF_PAGE else 1
 
 
-sys.exit(main())
+if __name__ == "__main__":
+    sys.exit(main())

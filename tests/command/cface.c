@@ -2,9 +2,7 @@
  * The C face, called from C: document 01's sample A and some of its neighbours, by
  * include/buttresk.h and the archive.
  *
- *     rt staticlib buttresk
- *     cc -std=c11 -Wall -Wextra -Iinclude tests/command/cface.c target/staticlib/libbuttresk.a -o
- * target/cface && target/cface
+ *     make build/cface && build/cface
  *
  * What is expected is written by hand from documents 01 and 02. It prints each check that fails,
  * and the count.
@@ -355,6 +353,13 @@ static void inventories(void)
     EXPECT(r.outcome == BUTTRESK_DONE && r.written == 0);
 }
 
+static int stored(struct buttresk_store_answer a, uint64_t outcome, uint64_t place, uint64_t offset,
+                  uint64_t detail, uint64_t written)
+{
+    return a.outcome == outcome && a.place == place && a.offset == offset && a.detail == detail &&
+           a.written == written;
+}
+
 static int listed(struct buttresk_list_answer a, uint64_t entries, uint64_t outcome,
                   uint64_t detail)
 {
@@ -457,6 +462,125 @@ static void products(void)
     EXPECT(p.known == 1 && p.template_number == 16 && p.category.known == 0 && p.number.known == 0);
 }
 
+/* Every function with null for all that it is lent, and a count of 0. A pointer that is followed
+   ends the program: nothing is at null. */
+static void nulls(void)
+{
+    struct buttresk_walk_answer w = buttresk_walk(NULL, 0, NULL, 0, NULL, 0);
+    EXPECT(counted(w, 0, 0, 0) && ended(w, BUTTRESK_DONE, 0, 0, 0));
+    struct buttresk_store_answer s = buttresk_publish(NULL, 0, NULL, 0);
+    EXPECT(stored(s, BUTTRESK_DONE, 0, 0, 0, 0));
+    s = buttresk_inventory(NULL, 0, NULL, 0);
+    EXPECT(stored(s, BUTTRESK_DONE, 0, 0, 0, 0));
+    s = buttresk_write(0, 255, 255, NULL, 0, NULL, 0, NULL, 0);
+    EXPECT(stored(s, BUTTRESK_NOT_ONE_MESSAGE, 0, 0, 0, 0));
+    EXPECT(listed(buttresk_read_list(NULL, 0, NULL, 0), 0, BUTTRESK_DONE, 0));
+    EXPECT(buttresk_indicator(NULL, 0).known == 0 && buttresk_identification(NULL, 0).known == 0 &&
+           buttresk_grid_definition(NULL, 0).known == 0 &&
+           buttresk_representation(NULL, 0).known == 0 && buttresk_bit_map(NULL, 0).known == 0);
+    struct buttresk_product_fields p = buttresk_product_definition(NULL, 0);
+    EXPECT(p.known == 0 && p.category.known == 0 && p.number.known == 0 && p.process.known == 0 &&
+           p.time.known == 0 && p.surfaces.known == 0);
+}
+
+/* Each lent memory alone is null, and the call has work to do with the others. */
+static void nulls_beside_memory(void)
+{
+    static const char line[] = "0:0:0:0:0:0:0:0:0\n";
+    uint64_t table[BUTTRESK_ENTRY], more[8 * BUTTRESK_ROW];
+    uint8_t dest[86];
+    struct file a = sample_a();
+
+    struct buttresk_walk_answer w = buttresk_walk(a.octets, a.size, NULL, 0, lines, LINES);
+    EXPECT(counted(w, 0, 0, 0) && ended(w, BUTTRESK_SECTION_TABLE_FULL, 0, 0, 0));
+    w = buttresk_walk(a.octets, a.size, more, 24, NULL, 0);
+    EXPECT(counted(w, 7, 0, 0) && ended(w, BUTTRESK_SUBMESSAGE_TABLE_FULL, 7, 82, 0));
+    w = buttresk_walk(a.octets, a.size, NULL, 0, NULL, 0);
+    EXPECT(counted(w, 0, 0, 0) && ended(w, BUTTRESK_SECTION_TABLE_FULL, 0, 0, 0));
+    w = buttresk_walk(NULL, 0, more, 24, lines, LINES);
+    EXPECT(counted(w, 0, 0, 0) && ended(w, BUTTRESK_DONE, 0, 0, 0));
+
+    memset(dest, 77, sizeof dest);
+    EXPECT(stored(buttresk_publish(a.octets, a.size, NULL, 0), BUTTRESK_NO_ROOM, 0, 0, 0, 0));
+    EXPECT(stored(buttresk_publish(NULL, 0, dest, sizeof dest), BUTTRESK_DONE, 0, 0, 0, 0));
+    EXPECT(
+        stored(buttresk_inventory(a.octets, a.size, NULL, 0), BUTTRESK_TEXT_TOO_SMALL, 0, 0, 0, 0));
+    EXPECT(stored(buttresk_inventory(a.octets, 84, NULL, 0), BUTTRESK_CUT, 7, 82, 2, 0));
+    EXPECT(stored(buttresk_inventory(NULL, 0, dest, sizeof dest), BUTTRESK_DONE, 0, 0, 0, 0));
+    EXPECT(dest[0] == 77 && dest[85] == 77);
+
+    EXPECT(listed(buttresk_read_list((const uint8_t *)line, strlen(line), NULL, 0), 0,
+                  BUTTRESK_SUBMESSAGE_TABLE_FULL, 0));
+    EXPECT(listed(buttresk_read_list((const uint8_t *)line, 4, NULL, 0), 0,
+                  BUTTRESK_LINE_NOT_IN_FORM, 1));
+    EXPECT(listed(buttresk_read_list(NULL, 0, table, BUTTRESK_ENTRY), 0, BUTTRESK_DONE, 0));
+}
+
+/* The plan of sample A, with its sections' payloads in A itself. */
+static void nulls_of_the_writer(void)
+{
+    static const uint64_t plan[6 * BUTTRESK_PART] = {1, 21, 16, 3, 42, 9, 4, 56, 4,
+                                                     5, 65, 6,  6, 76, 1, 7, 82, 0};
+    /* sections 1 to 6 have a least payload, so a plan whose payloads are all empty is refused */
+    static const uint64_t empty[6 * BUTTRESK_PART] = {1, 0, 0, 3, 0, 0, 4, 0, 0,
+                                                      5, 0, 0, 6, 0, 0, 7, 0, 0};
+    uint8_t dest[86];
+    struct file a = sample_a();
+    memset(dest, 77, sizeof dest);
+    EXPECT(stored(buttresk_write(10, 255, 255, NULL, 0, a.octets, a.size, dest, sizeof dest),
+                  BUTTRESK_NOT_ONE_MESSAGE, 0, 0, 0, 0));
+    EXPECT(stored(buttresk_write(10, 255, 255, plan, 18, NULL, 0, dest, sizeof dest),
+                  BUTTRESK_OUTSIDE_STORE, 0, 0, 0, 0));
+    EXPECT(stored(buttresk_write(10, 255, 255, empty, 18, NULL, 0, dest, sizeof dest),
+                  BUTTRESK_PAYLOAD_SIZE, 0, 0, 0, 0));
+    EXPECT(dest[0] == 77 && dest[85] == 77);
+    EXPECT(stored(buttresk_write(10, 255, 255, plan, 18, a.octets, a.size, NULL, 0),
+                  BUTTRESK_NO_ROOM, 0, 0, 0, 0));
+    EXPECT(stored(buttresk_write(10, 255, 255, plan, 18, a.octets, a.size, dest, sizeof dest),
+                  BUTTRESK_DONE, 0, 0, 0, 86) &&
+           memcmp(dest, a.octets, 86) == 0);
+}
+
+static int is(const char *found, const char *expected)
+{
+    return found != NULL && strcmp(found, expected) == 0;
+}
+
+/* Some outcomes in words; that all are there; and that no other number has any. */
+static void words(void)
+{
+    int there = 0;
+    for (uint64_t outcome = 0; outcome < 22; outcome++) {
+        there += buttresk_outcome_name(outcome) != NULL && buttresk_outcome_means(outcome) != NULL;
+    }
+    EXPECT(there == 22);
+    EXPECT(is(buttresk_outcome_name(BUTTRESK_DONE), "done"));
+    EXPECT(is(buttresk_outcome_name(BUTTRESK_CUT), "cut"));
+    EXPECT(is(buttresk_outcome_detail(BUTTRESK_CUT), "the octets missing"));
+    EXPECT(is(buttresk_outcome_means(BUTTRESK_OTHER_EDITION), "the edition is not 2"));
+    EXPECT(is(buttresk_outcome_detail(BUTTRESK_OTHER_EDITION), "the edition"));
+    EXPECT(is(buttresk_outcome_name(BUTTRESK_NO_GRID), "no grid"));
+    EXPECT(
+        is(buttresk_outcome_means(BUTTRESK_OUTSIDE_STORE), "a payload reaches beyond the store"));
+    EXPECT(is(buttresk_outcome_name(BUTTRESK_NO_ROOM), "no room"));
+    EXPECT(is(buttresk_outcome_name(BUTTRESK_LINE_NOT_IN_FORM), "line not in form"));
+    EXPECT(buttresk_outcome_detail(BUTTRESK_DONE) == NULL &&
+           buttresk_outcome_detail(BUTTRESK_FILE_TOO_LONG) == NULL &&
+           buttresk_outcome_detail(BUTTRESK_TEXT_TOO_SMALL) == NULL);
+    EXPECT(buttresk_outcome_name(22) == NULL && buttresk_outcome_means(22) == NULL &&
+           buttresk_outcome_detail(22) == NULL);
+    EXPECT(buttresk_outcome_name(UINT64_MAX) == NULL &&
+           buttresk_outcome_name((uint64_t)1 << 32) == NULL);
+}
+
+static void version(void)
+{
+    char text[40];
+    snprintf(text, sizeof text, "%d.%d.%d", BUTTRESK_VERSION_MAJOR, BUTTRESK_VERSION_MINOR,
+             BUTTRESK_VERSION_PATCH);
+    EXPECT(strcmp(text, BUTTRESK_VERSION) == 0);
+}
+
 int main(void)
 {
     walks();
@@ -471,6 +595,11 @@ int main(void)
     lists();
     fields();
     products();
+    nulls();
+    nulls_beside_memory();
+    nulls_of_the_writer();
+    words();
+    version();
     printf("cface: %d checks, %d failed\n", checks, failed);
     return failed != 0;
 }

@@ -1,21 +1,31 @@
-"""Files that another process changes while they are read: always a status with its reason, never a crash, never a DEST of a changed file.
+"""Files that another process changes while they are read: always a status with its reason, never a
+crash, never a DEST of a changed file.
 
-The command is stopped (SIGSTOP) once it has mapped the file, the file is changed, and the command goes on (SIGCONT).
+The command is stopped (SIGSTOP) once it has mapped the file, the file is changed, and the command
+goes on (SIGCONT).
 """
 
+import fcntl
+import json
 import os
 import random
 import subprocess
+import sys
+import termios
 import threading
 import time
 from pathlib import Path
 
 import reference
-from shared import check, check_ended, emulated, finish, folder, meanwhile, names_in, run, skip, start, write
+from shared import (check, check_ended, check_equal, emulated, finish, folder, meanwhile, names_in,
+                    run, skip, start, write)
 from walk_files import A, END, least, message, section
 
-SHORTENED, GREW, WRITTEN = b": was shortened while it was read\n", b": grew while it was read\n", b": was written to while it was read\n"
-REPLACED, GONE = b": was replaced by another file while it was read\n", b": was moved or removed while it was read\n"
+SHORTENED, GREW, WRITTEN = (b": was shortened while it was read\n", b": grew while it was read\n",
+                            b": was written to while it was read\n")
+CHANGED = b": was changed, or its mode, owner, links or times were, while it was read\n"
+REPLACED, GONE = (b": was replaced by another file while it was read\n",
+                  b": was moved or removed while it was read\n")
 
 
 def messages():
@@ -60,13 +70,25 @@ def replaced(path):
     os.rename(other, path)
 
 
+def rewritten_and_set_back(path):
+    """The modification time is the old one again: only the time of this setting tells."""
+    times = path.stat()
+    rewritten(path)
+    os.utime(path, ns=(times.st_atime_ns, times.st_mtime_ns))
+
+
 def removed(path):
     os.unlink(path)
 
 
-CHANGES = [("shortened to nothing", shortened_to(0), SHORTENED), ("shortened to a page", shortened_to(4096), SHORTENED),
-           ("shortened by an octet", shortened_by(1), SHORTENED), ("grown by a message", grown, GREW),
-           ("rewritten by the same octet", rewritten, WRITTEN), ("touched", touched, WRITTEN), ("replaced by its like", replaced, REPLACED),
+CHANGES = [("shortened to nothing", shortened_to(0), SHORTENED),
+           ("shortened to a page", shortened_to(4096), SHORTENED),
+           ("shortened by an octet", shortened_by(1), SHORTENED),
+           ("grown by a message", grown, GREW),
+           ("rewritten by the same octet", rewritten, WRITTEN),
+           ("rewritten, and its time set back", rewritten_and_set_back, CHANGED),
+           ("touched", touched, WRITTEN),
+           ("replaced by its like", replaced, REPLACED),
            ("removed", removed, GONE)]
 
 
@@ -84,16 +106,22 @@ def wait_until_mapped(process, name, mapped=True):
         time.sleep(0.0003)
 
 
-def changed_while_at_work(path, act, *arguments):
-    """The end of a command whose file is changed after it was mapped; a run that was over too soon is made again."""
+def changed_while_at_work(path, act, *arguments, tells=True):
+    """The end of a command whose file is changed after it was mapped. A run that was over too soon
+    is made again, and so is one that tells nothing: its last look may have been over."""
+    done = None
     for _ in range(5):
         write(path, A * messages())
         process = start(*arguments)
         wait_until_mapped(process, path)
-        if meanwhile(process, lambda: act(path)):
-            return finish(process)
-        finish(process)
-    raise RuntimeError("the command is too fast to be stopped at work")
+        still_ran = meanwhile(process, lambda: act(path))
+        ended = finish(process)
+        done = ended if still_ran else done
+        if still_ran and (ended.stderr or not tells):
+            break
+    if done is None:
+        raise RuntimeError("the command is too fast to be stopped at work")
+    return done
 
 
 def each_change(at):
@@ -103,26 +131,30 @@ def each_change(at):
         check_ended(f"index, the file is {what}", done, 2, reason, b"")
         done = changed_while_at_work(path, act, "copy", path, at / "dest")
         check_ended(f"copy, the file is {what}", done, 2, reason, b"")
-        check("and there is no DEST and nothing beside it", set(names_in(at)) <= {"file"}, names_in(at))
+        check("and there is no DEST and nothing beside it", set(names_in(at)) <= {"file"},
+              names_in(at))
     write(at / "dest", b"old")
     done = changed_while_at_work(path, shortened_to(4096), "copy", "--force", path, at / "dest")
     check_ended("copy --force, the file is shortened to a page", done, 2, SHORTENED, b"")
-    check("and DEST is as it was", (at / "dest").read_bytes() == b"old" and names_in(at) == ["dest", "file"], names_in(at))
+    check("and DEST is as it was",
+          (at / "dest").read_bytes() == b"old" and names_in(at) == ["dest", "file"], names_in(at))
 
 
 def unchanged(at):
     """That the stop itself changes nothing."""
     path = at / "file"
-    done = changed_while_at_work(path, lambda _: None, "copy", path, at / "dest")
+    done = changed_while_at_work(path, lambda _: None, "copy", path, at / "dest", tells=False)
     check_ended("a copy that is only stopped for a while succeeds", done, 0)
     expected = reference.public_copy(A, len(A)).octets * messages()
     check("and is whole", (at / "dest").read_bytes() == expected)
 
 
 def stopped_before_it_is_named(path, dest):
-    """The end of a copy whose file is touched after the copy is written, and before it is named; None if the moment was missed."""
+    """The end of a copy whose file is touched after the copy is written, and before it is named;
+    None if the moment was missed."""
     process = start("copy", path, dest)
-    # So the system shows a mapped file of this folder that has no name. It is unmapped before it is synced.
+    # So the system shows a mapped file of this folder that has no name.
+    # It is unmapped before it is synced.
     nameless = f" {dest.parent}/#"
     wait_until_mapped(process, nameless)
     wait_until_mapped(process, nameless, mapped=False)
@@ -138,7 +170,9 @@ def stopped_before_it_is_named(path, dest):
 
 def written_but_not_named(at):
     """A section 7 of 48 MiB takes its time to be synced."""
-    path, dest = write(at / "file", message(least(1, 3, 4, 5, 6) + section(7, bytes(48 * 2**20)) + END)), at / "dest"
+    path, dest = (
+        write(at / "file", message(least(1, 3, 4, 5, 6) + section(7, bytes(48 * 2**20)) + END)),
+        at / "dest")
     for _ in range(12):
         done = stopped_before_it_is_named(path, dest)
         if done is not None:
@@ -151,12 +185,22 @@ def written_but_not_named(at):
 
 # --- fields, stopped by a pipe that is full ------------------------------------------------------
 
-def while_printing(path, act):
-    """The command waits for the pipe to be read: it is at a submessage in the middle when the file is changed."""
+def wait_until_full(pipe):
+    """Until nothing more comes into a pipe that nobody reads."""
+    there, before = -1, -2
+    while there != before:
+        time.sleep(0.3)
+        held = fcntl.ioctl(pipe.fileno(), termios.FIONREAD, bytes(4))
+        there, before = int.from_bytes(held, sys.byteorder), there
+
+
+def while_printing(path, act, *options):
+    """The command waits for the pipe to be read: it is at a submessage in the middle when the file
+    is changed."""
     write(path, A * 6000)
-    process = start("fields", path)
+    process = start("fields", *options, path)
     first = os.read(process.stdout.fileno(), 1)
-    time.sleep(0.3)
+    wait_until_full(process.stdout)
     act(path)
     done = finish(process)
     return subprocess.CompletedProcess(done.args, done.returncode, first + done.stdout, done.stderr)
@@ -167,7 +211,14 @@ def fields_at_work(at):
     for what, act, reason in CHANGES:
         done = while_printing(path, act)
         check_ended(f"fields, the file is {what} while lines are printed", done, 2, reason)
-        check("and the first lines stand", done.stdout.startswith(b"submessage\t") and done.stdout.count(b"\n") > 100, done.stdout[:200])
+        check("and the first lines stand",
+              done.stdout.startswith(b"submessage\t") and done.stdout.count(b"\n") > 100,
+              done.stdout[:200])
+    done = while_printing(path, touched, "--json")
+    end = json.loads(done.stdout.splitlines()[-1])
+    check_equal("in JSON the end says why the lines are void",
+                (end["kind"], end["outcome"], end["error"]),
+                ("end", None, "was written to while it was read"))
 
 
 def one_of_several(at):
@@ -176,14 +227,17 @@ def one_of_several(at):
     done = changed_while_at_work(path, shortened_to(4096), "index", path, other)
     expected = (f"file {other}\nsections 8 submessages 1 messages 1\n"
                 "0.0 0 1 - 2 3 4 5 6 7 0 86\nend 0 0 0 0\n")
-    check_ended("index of a changed file and another: the other is printed alone", done, 2, SHORTENED, expected.encode())
+    check_ended("index of a changed file and another: the other is printed alone", done, 2,
+                SHORTENED, expected.encode())
 
 
 # --- Between two looks ---------------------------------------------------------------------------
 
 def section_7_reaches_far(path):
-    """The last message's section 7 seems to have nearly 2^32 octets: clean at the first look, it is not at the second."""
-    far = message(least(1, 3, 4, 5, 6) + section(7, b"", stated=2**32 - 16) + END, total=2**32 - 16 + len(A) - 5)
+    """The last message's section 7 seems to have nearly 2^32 octets: clean at the first look, it is
+    not at the second."""
+    far = message(least(1, 3, 4, 5, 6) + section(7, b"", stated=2**32 - 16) + END,
+                  total=2**32 - 16 + len(A) - 5)
     with open(path, "r+b") as file:
         file.seek(-len(A), os.SEEK_END)
         file.write(far)
@@ -208,7 +262,8 @@ def between_two_looks(at, times):
         unsaid = done.returncode == 2 and not (still_ran and WRITTEN in done.stderr)
         if done.returncode not in (0, 2) or whole != (done.returncode == 0) or unsaid:
             wrong.append((done, still_ran, whole))
-    check(f"{times} copies of a file that is rewritten at some moment end in 2 with the reason, or were over: {statuses}",
+    check(f"{times} copies of a file that is rewritten at some moment end in 2 with the reason, "
+          f"or were over: {statuses}",
           not wrong and statuses.get(2, 0) > times // 2, wrong[:3])
 
 
@@ -220,13 +275,17 @@ def always_rewritten(at, times):
         with open(path, "r+b", buffering=0) as file:
             while not over.is_set():
                 file.seek(len(A) * random.randrange(2000) + random.choice((8, 12, 16, 20, 37, 77)))
-                file.write(random.choice((b"\xff\xff\xff\xff", b"\0\0\0\0", b"\0\0\0\5\7", b"GRIB", A[77:86])))
+                file.write(random.choice((b"\xff\xff\xff\xff", b"\0\0\0\0", b"\0\0\0\5\7", b"GRIB",
+                                          A[77:86])))
     writer = threading.Thread(target=write_on)
     writer.start()
-    ends = [run(*words) for _ in range(times) for words in (("index", path), ("fields", path), ("copy", "--force", path, at / "dest"))]
+    ends = [run(*words) for _ in range(times)
+            for words in (("index", path), ("fields", path),
+                          ("copy", "--force", path, at / "dest"))]
     over.set()
     writer.join()
-    check(f"{len(ends)} runs on a file that is written to all the time: status 1 or 2 with a reason, never a signal",
+    check(f"{len(ends)} runs on a file that is written to all the time: "
+          "status 1 or 2 with a reason, never a signal",
           all(done.returncode in (1, 2) and done.stderr.startswith(b"buttresk: ") for done in ends),
           [(done.returncode, done.stderr) for done in ends if done.returncode not in (1, 2)][:3])
     check("and no copy of it", names_in(at) == ["file"], names_in(at))

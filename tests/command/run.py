@@ -1,7 +1,8 @@
 #!/usr/bin/env -S python3 -B
 """Tests the command: CC=.. RUN=.. tests/command/run.py build/buttresk [MODULE..]
 
-Each check is a line; the last line counts them, and the status is 1 if one does not hold. tests/README.md says what is tried.
+Each check is a line; the last line counts them, and the status is 1 if one does not hold.
+tests/README.md says what is tried.
 """
 
 import importlib
@@ -11,7 +12,8 @@ import time
 
 import shared
 
-MODULES = ["reading", "listing", "copying", "changing", "errors", "large", "making"]
+MODULES = ["reading", "listing", "viewing", "copying", "verifying", "changing", "errors", "large",
+           "making"]
 
 
 def main(arguments):

@@ -1,4 +1,5 @@
-"""What the tests of the command share: to run it, to say what held, to make files, and the count at the end."""
+"""What the tests of the command share: to run it, to say what held, to make files,
+and the count at the end."""
 
 import os
 import re
@@ -10,6 +11,9 @@ from pathlib import Path
 
 ROOT = Path(__file__).resolve().parent.parent.parent
 sys.path.append(str(ROOT / "tests/lists"))
+
+import reference  # noqa: E402: it stands in the folder that was just named
+
 SAMPLES = ROOT / "samples"
 ECCODES_SAMPLES = Path("/usr/share/eccodes/samples")
 
@@ -69,7 +73,8 @@ def run(*arguments, timeout=120, **options):
     """Runs the command to its end; its output and its errors are octets."""
     options.setdefault("stdout", subprocess.PIPE)
     options.setdefault("stderr", subprocess.PIPE)
-    options.setdefault("stdin", subprocess.DEVNULL)
+    if "input" not in options:
+        options.setdefault("stdin", subprocess.DEVNULL)
     return subprocess.run(Command.words(*arguments), timeout=timeout, **options)
 
 
@@ -107,10 +112,12 @@ def meanwhile(process, act):
 
 
 def check_ended(what, done, status, in_errors=b"", in_output=None):
-    """Status, a text on standard error (none at all where it is empty), and where it is given all of the output."""
+    """Status, a text on standard error (none at all where it is empty), and where it is given all
+    of the output."""
     errors_as_said = in_errors in done.stderr if in_errors else done.stderr == b""
     output_as_said = in_output is None or done.stdout == in_output
-    told = f"status {done.returncode}, not {status}\nerrors {shown(done.stderr)}\noutput {shown(done.stdout)}"
+    told = (f"status {done.returncode}, not {status}\n"
+            f"errors {shown(done.stderr)}\noutput {shown(done.stdout)}")
     if in_errors:
         told += f"\nwanted {shown(in_errors)}"
     return check(what, done.returncode == status and errors_as_said and output_as_said, told)
@@ -122,13 +129,38 @@ def missing(octets):
 
 
 def tells(errors, answer):
-    """Whether standard error has an answer of reference.py: nothing of a clean end, else one line with its numbers, and of 2 the words."""
+    """Whether standard error has an answer of reference.py: nothing of a clean end, else one line
+    with its numbers, and of 2 the words."""
     if answer.outcome == 0:
         return errors == b""
     words = re.escape(f" ({missing(answer.detail)})") if answer.outcome == 2 else r"( \(.+\))?"
-    line = (rf"buttresk: .+: refused by {answer.outcome} \(.+\): .+; place {answer.place}, offset {answer.offset}, "
-            rf"detail {answer.detail}{words}\n")
+    line = (rf"buttresk: .+: refused by {answer.outcome} \(.+\): .+; "
+            rf"place {answer.place}, offset {answer.offset}, detail {answer.detail}{words}\n")
     return re.fullmatch(line.encode(), errors) is not None
+
+
+def outside_of(file):
+    """How many octets no listed section holds, each looked at: to the end of a clean file, and to
+    where another is refused."""
+    done = reference.walk(file)
+    marks = bytearray(len(file) if done.outcome == 0 else done.offset)
+    for row in done.rows:
+        marks[row.offset:row.offset + row.length] = (
+            b"\1" * len(marks[row.offset:row.offset + row.length]))
+    return marks.count(0)
+
+
+def outside_words(path, file):
+    """The line that tells of them; no octets where there is none."""
+    done, outside = reference.walk(file), outside_of(file)
+    stand = "1 octet stands" if outside == 1 else f"{outside} octets stand"
+    if done.outcome == 0 and done.messages == 0:
+        words = (f"there is no message: {stand} outside messages" if file
+                 else "there is no message: the file is empty")
+    else:
+        words = (f"{stand} outside messages{'' if done.outcome == 0 else ', before the refusal'}"
+                 if outside else "")
+    return f"buttresk: {path}: {words}\n".encode() if words else b""
 
 
 # --- Folders and files ---------------------------------------------------------------------------

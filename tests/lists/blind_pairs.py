@@ -1,5 +1,7 @@
 #!/usr/bin/env -S python3 -B
-"""Demand 3 of walk and inventory, tried: tests/lists/blind_pairs.py [--pairs N] [--seed N] target/bin/replay
+"""Demand 3 of walk and inventory, tried.
+
+    tests/lists/blind_pairs.py [--pairs N] [--seed N] target/bin/replay
 
 Makes pairs of files of one length that differ in values octets only, asks `replay` for the walk and
 the inventory of both (kinds `W`, `I`), and holds the answers against each other, the lines of the
@@ -21,7 +23,8 @@ from walk_files import END, message, section
 
 RUN = Path(__file__).resolve().parent.parent / "run.sh"
 MOST_INPUT = 262144
-TEMPLATES = [0, 1, 8, 11, 15, 20, 32, 40, 44, 47, 48, 51, 60, 70, 76, 82, 88, 91, 254, 1000, 1100, 1101, 65535]
+TEMPLATES = [0, 1, 8, 11, 15, 20, 32, 40, 44, 47, 48, 51, 60, 70, 76, 82, 88, 91, 254, 1000, 1100,
+             1101, 65535]
 
 
 def random_section(pick, number):
@@ -71,7 +74,8 @@ def inventory_request(file, room):
 
 
 def answers(replay, requests, last):
-    """The lines of each answer, whose last begins so; in as few runs as the input's limit allows."""
+    """The lines of each answer, whose last begins so; in as few runs as the input's limit allows.
+    """
     lines, batch = [], b""
     for one in requests + [None]:
         if one is None or len(batch) + len(one) > MOST_INPUT:

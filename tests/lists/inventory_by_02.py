@@ -1,5 +1,5 @@
-"""The text inventory and its reader by document 02, Ticket 1, read plainly: it says the answers that
-the stored lists expect.
+"""The text inventory and its reader by document 02, Ticket 1, read plainly: it says the answers
+that the stored lists expect.
 
 Written from document 02, with the project's reading where 02 leaves two; it shares nothing with the
 library. Words are 02's.

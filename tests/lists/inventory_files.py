@@ -173,14 +173,16 @@ def lists_by_hand():
 def swept_lists():
     """Every octet in place of each octet of a line; every cut of two lines; every room."""
     for place in range(len(LINE)):
-        for octet in (0, 9, 10, 13, 32, 43, 45, 47, 48, 49, 57, 58, 59, 78, 101, 110, 128, 178, 255):
+        for octet in (0, 9, 10, 13, 32, 43, 45, 47, 48, 49, 57, 58, 59, 78, 101, 110, 128, 178,
+                      255):
             yield LINE[:place] + bytes([octet]) + LINE[place + 1:], 2
     two = b"12:34:56:78:none:none:none:none:none\n" + LINE
     for cut in range(len(two)):
         yield two[:cut], 2
     for room in range(6):
         yield LINE * 4, room
-    yield b"".join(b"%d:%d:%d:%d:%d:%d:%d:%d:%d\n" % (k, k * k, 7 * k, k % 256, k % 7, k % 11, k % 13, k * 9999, k % 254)
+    yield b"".join(b"%d:%d:%d:%d:%d:%d:%d:%d:%d\n"
+                   % (k, k * k, 7 * k, k % 256, k % 7, k % 11, k % 13, k * 9999, k % 254)
                    for k in range(512)), 512
     for text in (b"\0" * 9, bytes(range(256)), b"none\n", b":" * 500, b"0:" * 300 + b"\n"):
         yield text, 3

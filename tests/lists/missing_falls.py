@@ -1,5 +1,7 @@
 #!/usr/bin/env -S python3 -B
-"""The count of missing octets, tried: tests/lists/missing_falls.py [--files N] [--seed N] target/bin/replay
+"""The count of missing octets, tried.
+
+    tests/lists/missing_falls.py [--files N] [--seed N] target/bin/replay
 
 Makes random files, cuts each at a random place and asks `replay` for its walk, its pull, its public
 copy and its inventory (kinds `W`, `P`, `C`, `I`). Where one is refused by 2 with detail m, it asks

@@ -1,15 +1,15 @@
 #!/usr/bin/env -S python3 -B
 """Write the stored lists of `replay` and the stored files of `gribwalk`: each program's input and
-the answers expected of it. (The list `replay_crate` is written by `oracle/sample`.)
+the answers expected of it. (The list `replay_crate` is written by `oracle/sample.py`.)
 
 No answer comes from the library under test. Walks, pulls, public copies and written messages are
 judged by `reference.py`, written from documents 01 and 02. Where a clean file's sections stand says
 the end of each of its cuts, too. Where eccodes has a sample's sections says which octets its public
 copy blanks, and a message written of a sample's payloads is the sample itself.
 Fields of whole messages are judged by eccodes (`grib_get`); lengths and templates that no message
-of eccodes has are judged by `fields_by_01.py`, written from document 01 and the ranges of its source
-document 002. Inventories and lists are judged by `inventory_by_02.py`, written from document 02, and
-by eccodes. Where two judges speak, or an answer is written by hand, they have to agree.
+of eccodes has are judged by `fields_by_01.py`, written from document 01 and the ranges of its
+source document 002. Inventories and lists are judged by `inventory_by_02.py`, written from document
+02, and by eccodes. Where two judges speak, or an answer is written by hand, they have to agree.
 """
 
 import argparse
@@ -23,8 +23,8 @@ import inventory_files
 import reference
 import write_plans
 from copy_files import BEFORE, FULL, LARGEST_ROOM
-from fields_by_01 import (LEAST, PROCESS, PRODUCT_START, SUPPORTED, SURFACES, TIME, fields_by_01, signed,
-                          start_of)
+from fields_by_01 import (LEAST, PROCESS, PRODUCT_START, SUPPORTED, SURFACES, TIME, fields_by_01,
+                          signed, start_of)
 from reference import FIRST_VALUES_OCTET, Part, Plan, Section, line_words, unsigned
 from walk_files import (A, A97, A117, CARRIED, END, MISSING, WITH_2, by_hand, cut_anywhere, least,
                         message, section, swept, whole)
@@ -631,8 +631,8 @@ def said_inventories(cases):
 
 
 # eccodes' names of the last six fields of a line.
-INVENTORY_KEYS = ["discipline", "parameterCategory", "parameterNumber", "indicatorOfUnitOfTimeRange",
-                  "forecastTime", "typeOfFirstFixedSurface"]
+INVENTORY_KEYS = ["discipline", "parameterCategory", "parameterNumber",
+                  "indicatorOfUnitOfTimeRange", "forecastTime", "typeOfFirstFixedSurface"]
 
 
 def line_by_eccodes(path):

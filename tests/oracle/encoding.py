@@ -1,6 +1,7 @@
 #!/usr/bin/env -S python3 -B
-"""Hold the transcription of the crate's writer (crates/as_the_encoder/specs/Encoder.antt) against the
-crate: nested messages and the oracle's answers as statements that the checker decides by computing.
+"""Hold the transcription of the crate's writer (crates/as_the_encoder/specs/Encoder.antt) against
+the crate: nested messages and the oracle's answers as statements that the checker decides by
+computing.
 
     tests/oracle/encoding.py --oracle OUT [--each N] [--seed N] [--count N]
         > crates/as_the_encoder/proofs/WrittenAnswers.antt
@@ -23,7 +24,8 @@ LONGEST = 160           # octets of a destination; what is longer takes the chec
 IN_ONE = 20             # answers in one statement
 
 HEAD = """\
--- Written by tests/oracle/encoding.py from the crate's own answers to {count} nested messages: the transcription of its writer gives the same.
+-- Written by tests/oracle/encoding.py from the crate's own answers to {count} nested messages: \
+the transcription of its writer gives the same.
 use Prim.Native.Nat.{{ℕ}}
 use mathlib.Core.Path.{{_≡_, refl}}
 use mathlib.Core.List.{{List, [], _∷_, map}}
@@ -62,7 +64,8 @@ use Rattle.as_the_encoder.specs.Encoder.{{
   reference,
 }}
 
--- a message, its destination's length, and the crate's answer: num_octets, write, and what write leaves through a reference
+-- a message, its destination's length, and the crate's answer: num_octets, write, and what \
+write leaves through a reference
 record Asked : Type 0 where
   message : Grib2Message
   room : ℕ
@@ -72,12 +75,14 @@ record Asked : Type 0 where
 
 abbrev asked : Grib2Message → ℕ → ℕ → WriteResult → Option (List ℕ) → Asked
 asked message room total answer by-reference =
-    record {{ message = message; room = room; total = size total; answer = answer; by-reference = by-reference }}
+    record {{ message = message; room = room; total = size total; answer = answer; \
+by-reference = by-reference }}
 
 -- the levels of a message
 abbrev product : List ℕ → List ℕ → List ℕ → List ℕ → IterL3
 product four five six seven =
-    record {{ section4 = four; data-sections = record {{ section5 = five; section6 = six; section7 = seven }} }}
+    record {{ section4 = four; data-sections = record {{ section5 = five; section6 = six; \
+section7 = seven }} }}
 
 abbrev grid : List ℕ → List IterL3 → IterL2
 grid three products = record {{ section3 = three; iter = products }}
@@ -87,7 +92,8 @@ local two grids = record {{ section2 = two; iter = grids }}
 
 abbrev message : ℕ → ℕ → ℕ → List ℕ → List IterL1 → Grib2Message
 message discipline reserved₁ reserved₂ one locals =
-    record {{ discipline = discipline; reserved₁ = reserved₁; reserved₂ = reserved₂; section1 = one; iter = locals }}
+    record {{ discipline = discipline; reserved₁ = reserved₁; reserved₂ = reserved₂; \
+section1 = one; iter = locals }}
 
 -- a buffer that was written
 abbrev writtenIn : WriteResult → Option (List ℕ)
@@ -104,14 +110,17 @@ told a =
       room = a .room;
       total = Grib2Message·num-octets (a .message);
       answer = Grib2Message·write (a .message) (replicate (a .room) 165);
-      by-reference = writtenIn (Grib2Message·write (reference (a .message)) (replicate (a .room) 165));
+      by-reference = writtenIn (Grib2Message·write (reference (a .message)) \
+(replicate (a .room) 165));
     }}
 """
 
 STATEMENT = """
 told-{k} : map told answers-{k} ≡ answers-{k}
-unfolding answers-{k} Grib2Message·write Grib2Message·num-octets IterL1·write IterL1·num-octets IterL2·write IterL2·num-octets
-    IterL3·write IterL3·num-octets write-data-sections data-sections-len write-section section-len write-section-header write-section8
+unfolding answers-{k} Grib2Message·write Grib2Message·num-octets IterL1·write \
+IterL1·num-octets IterL2·write IterL2·num-octets
+    IterL3·write IterL3·num-octets write-data-sections data-sections-len write-section \
+section-len write-section-header write-section8
     write-section0 Section0·write-to-buffer SectionHeader·write-to-buffer write-to-buffer
 told-{k} = refl
 """
@@ -166,7 +175,8 @@ def case(plan, told):
 
 
 def small_plans():
-    """Rows of sections with payloads of one octet or none; of each one octet too little room too."""
+    """Rows of sections with payloads of one octet or none; of each one octet too little room, too.
+    """
     for numbers in ([1], [1, 2], [1, 3], [1, 2, 3], [1, 3, 4, 5, 6, 7], [1, 2, 3, 4, 5, 6, 7],
                     [1, 2, 2, 3], [1, 3, 3], [1, 3, 4, 5, 6, 7, 2, 3, 4, 5, 6, 7]):
         for length in (0, 1):

@@ -215,7 +215,7 @@ def main():
             if len(file) < 2_000:
                 several = file + with_submessages(file, 2) + file
                 peer.submessages(several, name + " with submessages")
-    for name, count in peer.counts.items():
+    for name, count in sorted(peer.counts.items(), key=lambda counted: counted[0] == "differences"):
         print(f"{name:>60} {count:>6,}")
     sys.exit(1 if peer.counts["differences"] else 0)
 

@@ -34,7 +34,7 @@ FAULTS = {
              "Fault::LongerThanRest(_) => 9,", "Fault::LongerThanRest(_) => 8,"),
     ]),
     # The crate tells no count of missing octets: 02's is judged by reference.py alone.
-    "count_of_8": ("of a cut section 8 an octet too many is missing, in definition and code", "walk", [
+    "count_of_8": ("of a cut 8 an octet too many is missing, in definition and code", "walk", [
         Edit("framing/specs/Framing.antt", "(Cut (endSize - left))", "(Cut (headerSize - left))"),
         Edit("framing/src/read.rt", "Fault::Cut((EndSection::WHOLE_SIZE - left) as u32)",
              "Fault::Cut((HEADER_SIZE - left) as u32)"),
@@ -53,7 +53,7 @@ FAULTS = {
              "reserved₁ ∷ reserved₂ ∷ discipline", "reserved₂ ∷ reserved₁ ∷ discipline"),
     ]),
     # The client's eleven hours.
-    "open_as_0": ("a message that goes on is told by 0 again; what prints has no contract", "walk", [
+    "open_as_0": ("a message that goes on is told by 0; what prints has no contract", "walk", [
         Edit("replaying/src/walk_lines.rt", "text(b\" open\"),", "text(b\" 0\"),"),
     ]),
     "minus_sign": ("-99 to -1 lose their sign; what prints has no contract", "signed", [

@@ -128,8 +128,12 @@ def carried_pairs(oracle):
 def unknown_pairs():
     """Good requests, then one of no known kind: `s`. The run ends there, so the good request behind
     it has no answer. docs/REPLAY.md says these answers."""
-    return [(signed_request(b"\x80\0\1"), "signed -1"), (fields_request(6, b"\xff"), "fields 6 255"),
-            (fields_request(2, b""), "fields 2 none"), (b"s" + signed_request(b"\5"), "bad")]
+    return [
+        (signed_request(b"\x80\0\1"), "signed -1"),
+        (fields_request(6, b"\xff"), "fields 6 255"),
+        (fields_request(2, b""), "fields 2 none"),
+        (b"s" + signed_request(b"\5"), "bad"),
+    ]
 
 
 def main():

@@ -87,8 +87,8 @@ def split_answers(asks, said):
 
 
 class Replay:
-    """Asks are gathered until a run is full. An answer that is not as expected goes to `report`, and
-    so does what stands behind the last one."""
+    """Asks are gathered until a run is full. An answer that is not as expected goes to `report`,
+    and so does what stands behind the last one."""
 
     def __init__(self, program, report):
         self.program, self.report = program, report
@@ -111,7 +111,8 @@ class Replay:
                 if answer != ask.expected:
                     self.report(ask, answer)
             if behind:
-                self.report(Ask("what stands behind the last answer", octets, ""), "\n".join(behind))
+                unasked = Ask("what stands behind the last answer", octets, "")
+                self.report(unasked, "\n".join(behind))
 
 
 # --- The oracle ----------------------------------------------------------------------------------

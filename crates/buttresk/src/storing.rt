@@ -40,7 +40,8 @@ fn five_of(answer: StoreEnd) -> StoreAnswer
     }
 }
 
-// Writes the public copy of a file; a refusal leaves the destination as it was.
+// Writes the public copy of a file; a refusal leaves the destination as it was. Number, place,
+// offset and detail of the answer are told, and the octets written.
 #[no_mangle]
 pub extern "C" fn buttresk_publish(file: &[u8], dest: &mut [u8]) -> StoreAnswer
     ensures answer { λ r. ⌜ r ≡ fiveOf (copyEnd
@@ -52,7 +53,7 @@ pub extern "C" fn buttresk_publish(file: &[u8], dest: &mut [u8]) -> StoreAnswer
 }
 
 // Writes the message of a plan, lent as rows of three numbers; a refusal leaves the destination as
-// it was.
+// it was. Number, place, offset and detail of the answer are told, and the octets written.
 #[no_mangle]
 pub extern "C" fn buttresk_write(
     discipline: u8,
@@ -70,7 +71,8 @@ pub extern "C" fn buttresk_write(
     five_of(write_end(write(discipline, reserved_1, reserved_2, plan, store, dest)))
 }
 
-// Writes the inventory of a file; a refusal leaves the buffer as it was.
+// Writes the inventory of a file; a refusal leaves the buffer as it was. Number, place, offset and
+// detail of the answer are told, and the octets written.
 #[no_mangle]
 pub extern "C" fn buttresk_inventory(file: &[u8], text: &mut [u8]) -> StoreAnswer
     ensures answer { λ r. ⌜ r ≡ fiveOf (inventoryEnd

@@ -91,7 +91,7 @@ fn put_time_fields(dest: &mut [u8], end: usize, time: MaybeTime) -> usize
     }
 }
 
-// Writes the line of an entry.
+// Writes the line of an entry at the end of 98 octets, behind zeros, and tells where it starts.
 pub fn spell(entry: Entry) -> Spelled
     ensures { λ r. ⌜ r ≡ spelledOf entry ⌝ }
 {

@@ -241,7 +241,8 @@ fn header_at(file: &[u8], at: usize, rest: u64) -> Framed
 }
 
 // What stands at the cursor: between messages (rest 0) the next section 0, else section 8 where
-// just its size is left, else a section with a header.
+// just its size is left, else a section with a header; and the next cursor. Or that the input is
+// over, or a fault, 2 to 9, with its offset and detail.
 pub fn framed_at(file: &[u8], cursor: Cursor) -> Framed
     ensures { λ r. ⌜ r ≡ framed (readAt (now (file .entry)) (cursor .at .0) (cursor .rest)) ⌝ }
 {

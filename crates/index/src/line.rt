@@ -62,7 +62,7 @@ pub struct Force {
     pub places: [Place; KEPT],
 }
 
-// A message, before its first section.
+// A message, before its first section: submessage 0, nothing in force.
 pub fn opened(message: u64) -> Force
     ensures { λ r. ⌜ r ≡ opened message ⌝ }
 {
@@ -78,7 +78,7 @@ pub fn opened(message: u64) -> Force
     }
 }
 
-// A section comes in force.
+// A section comes in force: it replaces the one of its number, and no other.
 pub fn in_force(mut force: Force, number: u64, here: Place) -> Force
     ensures { λ r. ⌜ r ≡ inForce force number here ⌝ }
 {
@@ -116,7 +116,7 @@ pub fn with_submessage(mut force: Force, submessage: u64) -> Force
     force
 }
 
-// The line of the submessage in hand.
+// The line of the submessage in hand: what is in force, with what stands behind it.
 pub fn line_of(force: Force, end: MessageEnd) -> Line
     ensures { λ r. ⌜ r ≡ lineOf force end ⌝ }
 {

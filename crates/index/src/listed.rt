@@ -10,7 +10,8 @@ pub struct Listed {
     pub section: Section,
 }
 
-// Before the first section: nothing asks for it until a section is listed.
+// What stands for the last section before there is one: nothing asks for it until a section is
+// listed.
 pub fn unlisted() -> Listed
     ensures { λ r. ⌜ r ≡ unlisted ⌝ }
 {

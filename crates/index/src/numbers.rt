@@ -88,7 +88,7 @@ fn refusal_detail(why: Refusal) -> u64
     }
 }
 
-// Outcome, place, offset and detail.
+// Outcome, place, offset and detail, by document 01's numbers; zeros at a clean end.
 pub fn end_of(outcome: Outcome) -> End
     ensures { λ r. ⌜ r ≡ endOf outcome ⌝ }
 {
@@ -108,7 +108,7 @@ pub fn end_of(outcome: Outcome) -> End
     }
 }
 
-// All is written, so many octets.
+// All is written: zeros, and so many octets.
 pub fn stored(octets: u64) -> StoreEnd
     ensures { λ r. ⌜ r ≡ stored octets ⌝ }
 {
@@ -118,7 +118,8 @@ pub fn stored(octets: u64) -> StoreEnd
     }
 }
 
-// A refusal that has no place in a file: 1 and 15 to 20.
+// The number and detail of a refusal that has no place in a file, 1 and 15 to 20; nothing is
+// written.
 pub fn unplaced(outcome: u64, detail: u64) -> StoreEnd
     ensures { λ r. ⌜ r ≡ unplaced outcome detail ⌝ }
 {

@@ -28,8 +28,8 @@ pub enum Inventoried {
     TextTooSmall,
 }
 
-// The inventory: the walk's own refusals, then 20. The lines are measured first, so that nothing is
-// written on a refusal.
+// The inventory, the line of each submessage: the walk's own refusals, then 20. The lines are
+// measured first, so that nothing is written on a refusal; the rest of the buffer is untouched.
 pub fn inventory(file: &[u8], text: &mut [u8]) -> Inventoried
     ensures answer { λ r. ⌜ r ≡ inventoryOf (now (file .entry)) (now (text .entry)) .answer ⌝ }
     ensures text { λ _. ⌜ now (text .exit)
@@ -53,7 +53,7 @@ pub fn inventory(file: &[u8], text: &mut [u8]) -> Inventoried
     }
 }
 
-// An answer in document 01's and 02's numbers.
+// An answer in document 01's and 02's numbers, and the octets written.
 pub fn inventory_end(answer: Inventoried) -> StoreEnd
     ensures { λ r. ⌜ r ≡ inventoryEnd answer ⌝ }
 {

@@ -28,7 +28,9 @@ pub struct ListAnswer {
     pub end: ListEnd,
 }
 
-// Reads the lines of a text one after the other and stores an entry for each.
+// Reads the lines of a text one after the other and stores an entry for each, thirteen numbers, up
+// to the first line that is not in form (21, with its number) or finds no room (14), and counts
+// them; the rest of the table is untouched.
 pub fn read_list(text: &[u8], table: &mut [u64]) -> ListAnswer
     ensures answer { λ r. ⌜ r ≡ readOf (now (text .entry)) (now (table .entry)) .answer ⌝ }
     ensures table { λ _. ⌜ now (table .exit)

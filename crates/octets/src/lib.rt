@@ -35,21 +35,21 @@ fn big_endian(s: &[u8]) -> u64
     sum
 }
 
-// The number that two octets write.
+// The big-endian number of two octets.
 pub fn be16(octets: [u8; 2]) -> u16
     ensures { λ r. ⌜ r ≡ beAt octets 0 2 ⌝ }
 {
     big_endian(&octets) as u16
 }
 
-// The number that four octets write.
+// The big-endian number of four octets.
 pub fn be32(octets: [u8; 4]) -> u32
     ensures { λ r. ⌜ r ≡ beAt octets 0 4 ⌝ }
 {
     big_endian(&octets) as u32
 }
 
-// The number that eight octets write.
+// The big-endian number of eight octets.
 pub fn be64(octets: [u8; 8]) -> u64
     ensures { λ r. ⌜ r ≡ beAt octets 0 8 ⌝ }
 {
@@ -85,7 +85,8 @@ fn minus(size: u64) -> i32
     -(size as i32)
 }
 
-// The number that a slice of 1 to 4 octets writes by sign and size; of any other length: no number.
+// The number that a slice of 1 to 4 octets writes by sign and size, with one zero; of any other
+// length: no number.
 pub fn sign_and_size(s: &[u8]) -> Signed
     ensures { λ r. ⌜ r ≡ signedOf (now (s .entry)) ⌝ }
 {

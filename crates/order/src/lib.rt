@@ -115,8 +115,8 @@ pub fn judge_read(order: Order, number: u64) -> Judged
     }
 }
 
-// What a number of a bare list is, after what was read last. Any number can stand where a message
-// starts, and there only 0 fits.
+// What a number of a bare list is, after what was read last: it fits, closes, is misplaced (11) or
+// has no grid (12). Any number can stand where a message starts, and there only 0 fits.
 pub fn judge(order: Order, number: u64) -> Judged
     ensures { λ r. ⌜ r ≡ judged order number ⌝ }
 {
@@ -126,7 +126,7 @@ pub fn judge(order: Order, number: u64) -> Judged
     judge_read(order, number)
 }
 
-// Does a well-read section first complete the submessage before it?
+// Does a well-read section first complete the submessage before it, whose message goes on?
 pub fn completing(order: Order, number: u64) -> bool
     ensures { λ r. ⌜ r ≡ completes order number ⌝ }
 {
@@ -146,7 +146,8 @@ pub fn between_messages(order: Order) -> bool
     }
 }
 
-// A whole list of numbers.
+// A whole list of numbers: the first that can't come next, else whether the list ends between
+// messages.
 pub fn judge_all(numbers: &[u64]) -> Verdict
     ensures { λ r. ⌜ r ≡ orderOf (now (numbers .entry)) ⌝ }
 {

@@ -185,7 +185,9 @@ fn surfaces_at(payload: &[u8], index: Index) -> MaybeSurfaces
     surfaces_of(from(from(payload, TEMPLATE), at))
 }
 
-// All product fields. The template is judged once; each field is then there or none by itself.
+// Category, number, generating process, time and surfaces of a payload of section 4: each is none
+// if the template is unsupported, has no index for it, or the payload ends too soon; both surfaces
+// or none. The template is judged once; each field is then there or none by itself.
 pub fn product_of(payload: &[u8]) -> Product
     ensures { λ r. ⌜ r ≡ productOf (now (payload .entry)) ⌝ }
 {

@@ -214,7 +214,8 @@ fn put_copy(file: &[u8], dest: &mut [u8])
     }
 }
 
-// The public copy: 1, 19, then the walk's refusals.
+// The public copy: refusal 1, then 19, then the walk's own, with the destination untouched; else
+// the copy, with the rest of the destination untouched.
 pub fn publish(file: &[u8], dest: &mut [u8]) -> Published
     ensures answer { λ r. ⌜ r ≡ copyOf licensed (now (file .entry)) (now (dest .entry)) .answer ⌝ }
     ensures dest { λ r. ⌜ now (dest .exit)
@@ -236,7 +237,7 @@ pub fn publish(file: &[u8], dest: &mut [u8]) -> Published
     }
 }
 
-// An answer in document 01's numbers.
+// An answer in document 01's numbers, and the octets written.
 pub fn copy_end(answer: Published) -> StoreEnd
     ensures { λ r. ⌜ r ≡ copyEnd answer ⌝ }
 {

@@ -44,7 +44,7 @@ pub struct Reader<'a> {
     pub progress: Progress,
 }
 
-// Before the first call.
+// Before the first call: the file's start, no end told.
 pub fn first(file: &[u8]) -> Progress
     ensures { λ r. ⌜ r ≡ firstOf (now (file .entry)) ⌝ }
 {
@@ -110,7 +110,8 @@ fn refuse(progress: Progress, why: Refusal, at: Listed) -> Pull
     stop(progress, Pulled::Refused(why, place, offset))
 }
 
-// One call, over plain parameters.
+// One call at a progress, over plain parameters: the section passed, the refusal once, then that
+// the reading has ended; and the next progress.
 pub fn pull_at(file: &[u8], progress: Progress) -> Pull
     ensures { λ r. ⌜ r ≡ pullAt (now (file .entry)) progress ⌝ }
 {
@@ -152,7 +153,7 @@ pub fn pull_at(file: &[u8], progress: Progress) -> Pull
     }
 }
 
-// A reader at the start of a file.
+// A reader of this file, before its first call.
 pub fn new<'a>(file: &'a [u8]) -> Reader<'a>
     ensures { λ r. ⌜ (r .file ≡ file .entry) × (r .progress ≡ firstOf (now (file .entry))) ⌝ }
 {
@@ -161,7 +162,8 @@ pub fn new<'a>(file: &'a [u8]) -> Reader<'a>
 }
 
 impl<'a> Reader<'a> {
-    // The next section, the refusal, or that the reading has ended.
+    // The next section, the refusal, or that the reading has ended: what `pull_at` answers where
+    // the reader stands. The reader keeps its file and moves to the next progress.
     pub fn next(&mut self) -> Pulled
         ensures { λ r. ⌜
             (r ≡ pullAt (now (now (self .entry) .file)) (now (self .entry) .progress) .answer)

@@ -94,7 +94,8 @@ pub struct Writing {
     pub to: usize,
 }
 
-// The request that starts at octet `at`; where the input has no such octet, a bad one.
+// The request that starts at octet `at`: a bad one if it is cut, over a limit or unknown, and where
+// the input has no such octet.
 pub fn request_at(input: &[u8], at: usize) -> Request
     ensures { λ r. ⌜ r ≡ requestAt (now (input .entry)) at ⌝ }
 {

@@ -33,7 +33,7 @@ impl BitMap {
         }
     }
 
-    // The indicator; none without octets.
+    // The indicator of section 6; none without octets.
     pub fn from_payload(payload: &[u8]) -> MaybeBitMap
         ensures { λ r. ⌜ r ≡ bitMapOf (now (payload .entry)) ⌝ }
     {

@@ -35,7 +35,7 @@ impl GridDefinition {
         }
     }
 
-    // Points and template; none under 9 octets.
+    // Points and template of section 3; none under 9 octets.
     pub fn from_payload(payload: &[u8]) -> MaybeGridDefinition
         ensures { λ r. ⌜ r ≡ gridDefinitionOf (now (payload .entry)) ⌝ }
     {

@@ -8,7 +8,7 @@ use crate::kinds::Values;
 use octets::be16;
 
 pub struct Identification {
-    // Common code table C-1
+    // Common code table C-11
     pub centre: u16,
     pub subcentre: u16,
     // Code table 1.0
@@ -50,7 +50,7 @@ impl Identification {
         }
     }
 
-    // The 13 fields; none under 16 octets.
+    // The 13 fields of section 1; none under 16 octets.
     pub fn from_payload(payload: &[u8]) -> MaybeIdentification
         ensures { λ r. ⌜ r ≡ identificationOf (now (payload .entry)) ⌝ }
     {

@@ -37,8 +37,8 @@ impl Indicator {
         }
     }
 
-    // The fields of a section's own octets. Neither "GRIB" nor the edition is tested: framing does
-    // that.
+    // Discipline and total length, of the section's own octets; none under 16 octets. Neither
+    // "GRIB" nor the edition is tested: framing does that.
     pub fn from_section(section: &[u8]) -> MaybeIndicator
         ensures { λ r. ⌜ r ≡ indicatorOf (now (section .entry)) ⌝ }
     {

@@ -35,7 +35,7 @@ impl ProdDefinition {
         }
     }
 
-    // Coordinates and template; none under 4 octets.
+    // Coordinates and template of section 4; none under 4 octets.
     pub fn from_payload(payload: &[u8]) -> MaybeProdDefinition
         ensures { λ r. ⌜ r ≡ prodDefinitionOf (now (payload .entry)) ⌝ }
     {

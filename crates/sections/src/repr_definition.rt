@@ -37,7 +37,7 @@ impl ReprDefinition {
         }
     }
 
-    // Points and template; none under 6 octets.
+    // Points and template of section 5; none under 6 octets.
     pub fn from_payload(payload: &[u8]) -> MaybeReprDefinition
         ensures { λ r. ⌜ r ≡ reprDefinitionOf (now (payload .entry)) ⌝ }
     {

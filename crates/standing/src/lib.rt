@@ -33,7 +33,7 @@ pub struct Standing {
     pub last: Listed,
 }
 
-// One more, of a count that no file brings to its end.
+// One more, up to the largest number, of a count that no file brings to its end.
 pub fn one_more(n: u64) -> u64
     ensures { λ r. ⌜ r ≡ oneMore n ⌝ }
 {
@@ -51,7 +51,7 @@ fn total_of(rest: u64) -> u64
     wrapping_add_u64(rest, Indicator::WHOLE_SIZE as u64)
 }
 
-// Where the message in hand stands, behind a section: a section 0 says it.
+// Where the message in hand stands, behind a section, by what is left of it: a section 0 says it.
 pub fn span_after(before: Span, section: Section, next: Cursor) -> Span
     ensures { λ r. ⌜ r ≡ spanAfter before section next ⌝ }
 {
@@ -65,7 +65,7 @@ pub fn span_after(before: Span, section: Section, next: Cursor) -> Span
     before
 }
 
-// A section is passed.
+// Where a walk stands once a section is passed: one section more, and this one the last.
 pub fn passed_row(at: Standing, section: Section, next: Reading) -> Standing
     ensures { λ r. ⌜ r ≡ passedRow at section next ⌝ }
 {
@@ -80,7 +80,7 @@ pub fn passed_row(at: Standing, section: Section, next: Reading) -> Standing
     }
 }
 
-// Stores a section's row at its place, where the table has room for it.
+// Stores a section's row at its place; a table without such a place stays as it was.
 pub fn put_row(rows: &mut [u64], place: u64, section: Section)
     ensures { λ _. ⌜ now (rows .exit) ≡ rowPut place section (now (rows .entry)) ⌝ }
 {

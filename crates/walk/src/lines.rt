@@ -144,8 +144,9 @@ fn put_line(lines: &mut [Line], due: bool, slot: usize, line: Line)
     }
 }
 
-// Walks a file. The section table is lent as numbers, three to a row; one or two left over are no
-// room. Lines that were stored before a refusal stand, and room beyond the counts is untouched.
+// Walks a file: the answer, and in both tables what was told, then what was there before. The
+// section table is lent as numbers, three to a row; one or two left over are no room. Lines that
+// were stored before a refusal stand, and room beyond the counts is untouched.
 pub fn walk(file: &[u8], rows: &mut [u64], lines: &mut [Line]) -> Answer
     ensures answer { λ r. ⌜ r
         ≡ walkOf (now (file .entry)) (now (rows .entry)) (now (lines .entry)) .answer ⌝ }

@@ -131,9 +131,10 @@ fn too_long() -> WalkAnswer
     )
 }
 
-// Walks a file. The tables are lent as numbers, three to a section's row and fifteen to a line; what
-// is left over is no room. Lines that were stored before a refusal stand, and room beyond the
-// counts is untouched.
+// Walks a file: the counts and the end of the walk in numbers, and in both tables the rows and the
+// lines that it tells, then what was there before. The tables are lent as numbers, three to a
+// section's row and fifteen to a line; what is left over is no room. Lines that were stored before
+// a refusal stand, and room beyond the counts is untouched.
 pub fn walk_numbers(file: &[u8], rows: &mut [u64], lines: &mut [u64]) -> WalkAnswer
     ensures answer { λ r. ⌜ r
         ≡ walkNumbers (now (file .entry)) (now (rows .entry)) (now (lines .entry)) .answer ⌝ }

@@ -1,5 +1,5 @@
-//! Stand-in for the crate's encoder.rs; `message` and `message/impls` are the crate's own files. Nothing is packed
-//! here: a `GpvEncoder` carries ready payloads of sections 5, 6 and 7.
+//! Stand-in for the crate's encoder.rs; `message` and `message/impls` are the crate's own files.
+//! Nothing is packed here: a `GpvEncoder` carries ready payloads of sections 5, 6 and 7.
 mod message;
 pub use message::*;
 

@@ -1,5 +1,5 @@
-//! The crate's own walk, fields and framing of a message, asked by requests on standard input: a kind octet, a length
-//! (4, big-endian) and so many octets. README.md says what is answered.
+//! The crate's own walk, fields and framing of a message, asked by requests on standard input: a
+//! kind octet, a length (4, big-endian) and so many octets. README.md says what is answered.
 mod codetables;
 mod datatypes;
 mod encoder;
@@ -73,7 +73,8 @@ fn walk(out: &mut String, file: &[u8]) {
     submessage_places(out, file);
 }
 
-/// Every section that can be read. This stream knows no order, so it may go on where the walk is over.
+/// Every section that can be read. This stream knows no order, so it may go on where the walk is
+/// over.
 fn sections_read(out: &mut String, file: &[u8]) {
     let _ = caught(|| {
         for section in sections(file, Began::default()) {
@@ -210,8 +211,8 @@ fn signed(out: &mut String, octets: &[u8]) {
 /// Every octet of a destination before the call, as in docs/REPLAY.md.
 const BEFORE: u8 = 165;
 
-/// Discipline (1), reserved (2), length of the destination (4), then of each section its number (1), the length of its
-/// payload (4) and the payload.
+/// Discipline (1), reserved (2), length of the destination (4), then of each section its number
+/// (1), the length of its payload (4) and the payload.
 fn write(out: &mut String, request: &[u8]) {
     let room = number_at(request, 3);
     let plan = planned(&request[7..]);
@@ -234,7 +235,10 @@ fn write(out: &mut String, request: &[u8]) {
 }
 
 /// As a function writes that is handed any message.
-fn by_reference<M: encoder::WriteGrib2Message>(message: M, dest: &mut [u8]) -> Result<usize, &'static str> {
+fn by_reference<M: encoder::WriteGrib2Message>(
+    message: M,
+    dest: &mut [u8],
+) -> Result<usize, &'static str> {
     message.write(dest)
 }
 

@@ -1,5 +1,5 @@
-//! A flat plan as the nested message that the crate's traits ask for. They can say 1 ([2] (3 (4 5 6 7)*)*)*, whose
-//! levels are these four types.
+//! A flat plan as the nested message that the crate's traits ask for. They can say
+//! 1 ([2] (3 (4 5 6 7)*)*)*, whose levels are these four types.
 use crate::encoder::*;
 
 pub struct Message<'d> {

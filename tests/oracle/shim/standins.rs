@@ -1,7 +1,8 @@
-//! Stand-ins for the crate's files that are not at hand: only what its reader.rs, parser.rs, helpers.rs,
-//! sections.rs, message.rs and impls.rs name.
+//! Stand-ins for the crate's files that are not at hand: only what its reader.rs, parser.rs,
+//! helpers.rs, sections.rs, message.rs and impls.rs name.
 
-/// Numbers and records from octets. A read past the end is an error, and the place stays where it was.
+/// Numbers and records from octets. A read past the end is an error, and the place stays where it
+/// was.
 pub trait TryFromSlice: Sized {
     fn try_from_slice(octets: &[u8], at: &mut usize) -> Result<Self, &'static str>;
 }
@@ -28,7 +29,9 @@ macro_rules! unsigned_numbers {
                 size_of::<$number>()
             }
             fn write_to_buffer(&self, buf: &mut [u8]) -> Result<usize, &'static str> {
-                let part = buf.get_mut(..size_of::<$number>()).ok_or("destination buffer is too small")?;
+                let part = buf
+                    .get_mut(..size_of::<$number>())
+                    .ok_or("destination buffer is too small")?;
                 part.copy_from_slice(&self.to_be_bytes());
                 Ok(part.len())
             }
@@ -178,8 +181,8 @@ pub mod context {
     }
 }
 
-/// def/grib2.rs: the records that are read or written. Their fields follow the crate's file of that name, which
-/// itself needs derive macros that are not at hand.
+/// def/grib2.rs: the records that are read or written. Their fields follow the crate's file of that
+/// name, which itself needs derive macros that are not at hand.
 pub mod def {
     pub mod grib2 {
         use crate::WriteToBuffer;

@@ -1,5 +1,5 @@
-//! An in-memory cursor that notes where the section in hand begins. The crate tells no offset of a section that it
-//! cannot read, but its cursor stood there.
+//! An in-memory cursor that notes where the section in hand begins. The crate tells no offset of a
+//! section that it cannot read, but its cursor stood there.
 use std::cell::Cell;
 use std::io::{self, Cursor, Read, Seek, SeekFrom};
 use std::rc::Rc;
@@ -26,8 +26,8 @@ impl<'a> Watched<'a> {
     }
 }
 
-/// The crate reads a header or a section 8 by one `read` of 5 or 4 octets, a payload by `read_exact`, and it searches
-/// for a section 0 by a `read` of a large block.
+/// The crate reads a header or a section 8 by one `read` of 5 or 4 octets, a payload by
+/// `read_exact`, and it searches for a section 0 by a `read` of a large block.
 impl Read for Watched<'_> {
     fn read(&mut self, buf: &mut [u8]) -> io::Result<usize> {
         self.searching = buf.len() > 5;

@@ -1,0 +1,14 @@
+/* How the answers about files are asked for. */
+#ifndef ASKED_H
+#define ASKED_H
+
+#include <stdbool.h>
+
+struct asked {
+    bool several; /* there may be more than one file: the output says of each line whose it is */
+    bool json;
+    bool strict; /* octets outside messages, and no message at all, count as a refusal */
+    bool force;  /* of a copy: a file that stands there is replaced */
+};
+
+#endif
