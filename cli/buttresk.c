@@ -197,7 +197,7 @@ static enum status dispatch(const struct options *o)
     }
     if (!names_fit(verb, o)) {
         return o->files0 == NULL
-                   ? wrong_usage(verb, verb->wants, " is wanted by ", verb->name)
+                   ? wrong_usage(verb, "", verb->wants, verb->name)
                    : wrong_usage(verb, "--files0-from",
                                  verb->way == COPY ? " wants one FOLDER and no FILE, for "
                                                    : " has all the names, for ",

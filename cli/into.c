@@ -126,7 +126,7 @@ static bool neighbours_differ(const struct pair *pairs, int count)
 /* Of two files with one last part the second copy would replace the first. */
 static bool all_differ(const struct into *into, char **names)
 {
-    struct pair *pairs = malloc((size_t)into->count * sizeof *pairs);
+    struct pair *pairs = malloc(((size_t)into->count + 1) * sizeof *pairs);
     if (pairs == NULL) {
         return fails_by_system(names[into->count]);
     }

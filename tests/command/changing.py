@@ -106,22 +106,26 @@ def wait_until_mapped(process, name, mapped=True):
         time.sleep(0.0003)
 
 
-def changed_while_at_work(path, act, *arguments, tells=True):
-    """The end of a command whose file is changed after it was mapped. A run that was over too soon
-    is made again, and so is one that tells nothing: its last look may have been over."""
-    done = None
-    for _ in range(5):
+def changed_while_at_work(path, act, *arguments, at_work=None):
+    """The end of a command whose file is changed after it was mapped; a run that was over too soon
+    is made again. Where `at_work` can tell of a process that its last look at the file is still to
+    come, the file is changed then, and a run that was stopped later is made again too. No other
+    is: a change that is not told is a fault."""
+    for _ in range(20):
         write(path, A * messages())
-        process = start(*arguments)
+        process, early = start(*arguments), []
         wait_until_mapped(process, path)
-        still_ran = meanwhile(process, lambda: act(path))
-        ended = finish(process)
-        done = ended if still_ran else done
-        if still_ran and (ended.stderr or not tells):
-            break
-    if done is None:
-        raise RuntimeError("the command is too fast to be stopped at work")
-    return done
+        while at_work and process.poll() is None and not at_work(process):
+            time.sleep(0.0003)
+
+        def change():
+            early.append(at_work is None or at_work(process))
+            act(path)
+        still_ran = meanwhile(process, change)
+        done = finish(process)
+        if still_ran and early[0]:
+            return done
+    raise RuntimeError("the command is too fast to be stopped at work")
 
 
 def each_change(at):
@@ -143,7 +147,7 @@ def each_change(at):
 def unchanged(at):
     """That the stop itself changes nothing."""
     path = at / "file"
-    done = changed_while_at_work(path, lambda _: None, "copy", path, at / "dest", tells=False)
+    done = changed_while_at_work(path, lambda _: None, "copy", path, at / "dest")
     check_ended("a copy that is only stopped for a while succeeds", done, 0)
     expected = reference.public_copy(A, len(A)).octets * messages()
     check("and is whole", (at / "dest").read_bytes() == expected)

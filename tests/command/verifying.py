@@ -8,7 +8,7 @@ from pathlib import Path
 
 import copy_files
 import reference
-from changing import CHANGES, changed_while_at_work
+from changing import CHANGES, changed_while_at_work, messages
 from large import MEBIBYTE, MOST_TOUCHED, long_message, run_measured, write_at
 from shared import (ECCODES_SAMPLES, SAMPLES, Command, check, check_ended, check_equal, emulated,
                     folder, is_root, names_in, run, skip, tells, write)
@@ -244,12 +244,22 @@ def names(at):
                 f"{shown}: octet 154 is 66, and is 0 in the public copy of {shown}\n".encode())
 
 
+def has_spool(process):
+    """Whether a file without a name is mapped: so the system shows the spool."""
+    try:
+        maps = Path(f"/proc/{process.pid}/maps").read_text().splitlines()
+    except OSError:
+        return False
+    return any("/#" in line and line.endswith(" (deleted)") for line in maps)
+
+
 def changing_files(at):
-    """Nothing is answered of a file that changed while it was read."""
-    path, other = at / "file", write(at / "other file", A)
+    """Nothing is answered of a file that changed while it was read. The spool is unmapped before
+    the last look at the files, so while it is mapped that look is still to come."""
+    path, other = at / "file", write(at / "other file", A * messages())
     for what, act, reason in CHANGES:
         for words in (("leaks", path), ("verify", other, path), ("verify", path, other)):
-            done = changed_while_at_work(path, act, *words)
+            done = changed_while_at_work(path, act, *words, at_work=has_spool)
             check_ended(f"{words[0]}, {'PUBLIC' if words[1:] == (path, other) else 'the file'} "
                         f"is {what}", done, 2, reason, b"")
 
