@@ -69,6 +69,7 @@ oracle() {
 
 try "quick checks" tests/checks/quick.sh
 where eccodes "tables" tests/checks/tables.py
+where eccodes "templates" tests/checks/templates.py
 where clang-format "form of the C code" clang-format --dry-run --Werror \
     cli/*.c cli/*.h include/*.h bench/*.c bench/*.h tests/command/*.c
 where eccodes "stored lists" stored_lists

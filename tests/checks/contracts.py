@@ -153,6 +153,12 @@ def written(logs):
     return "\n\n".join(part for part in parts if part) + "\n", counts, wrong
 
 
+def differing(now, page):
+    """The lines in which a page as it stands differs from what its script writes."""
+    return list(difflib.unified_diff(now.splitlines(), page.splitlines(), "as it stands",
+                                     "as it is written", n=0, lineterm=""))
+
+
 def main():
     asked = argparse.ArgumentParser(description=__doc__.splitlines()[0])
     what = asked.add_mutually_exclusive_group(required=True)
@@ -164,8 +170,7 @@ def main():
     if asked.write and not wrong:
         PAGE.write_text(page)
     now = PAGE.read_text() if PAGE.exists() else ""
-    wrong = wrong or list(difflib.unified_diff(now.splitlines(), page.splitlines(), "as it stands",
-                                               "as it is written", n=0, lineterm=""))
+    wrong = wrong or differing(now, page)
     end = "docs/CONTRACTS.md is not up to date" if wrong else "docs/CONTRACTS.md is up to date"
     print(*wrong, f"{counts}; {end}", sep="\n")
     return 1 if wrong else 0

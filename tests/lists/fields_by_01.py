@@ -49,12 +49,24 @@ def signed(octets):
     return -(value - sign_bit) if value & sign_bit else value
 
 
-def start_of(ranges, template):
-    """Where in the payload the template's field starts; None if no range has the template."""
+def index_of(ranges, template):
+    """The index of the template's field; None if no range has the template."""
     for first, last, index in ranges:
         if first <= template <= last:
-            return PRODUCT_START + index
+            return index
     return None
+
+
+def start_of(ranges, template):
+    """Where in the payload the template's field starts; None if it has no index."""
+    index = index_of(ranges, template)
+    return None if index is None else PRODUCT_START + index
+
+
+def offsets_by_01(template):
+    """The indices of generating process, time and surfaces, whether the template is supported or
+    not; None for each that has none."""
+    return [index_of(ranges, template) for ranges in (PROCESS, TIME, SURFACES)]
 
 
 def part(payload, start, width):

@@ -7,9 +7,10 @@ judged by `reference.py`, written from documents 01 and 02. Where a clean file's
 the end of each of its cuts, too. Where eccodes has a sample's sections says which octets its public
 copy blanks, and a message written of a sample's payloads is the sample itself.
 Fields of whole messages are judged by eccodes (`grib_get`); lengths and templates that no message
-of eccodes has are judged by `fields_by_01.py`, written from document 01 and the ranges of its
-source document 002. Inventories and lists are judged by `inventory_by_02.py`, written from document
-02, and by eccodes. Where two judges speak, or an answer is written by hand, they have to agree.
+of eccodes has, and the offsets of templates, are judged by `fields_by_01.py`, written from document
+01 and the ranges of its source document 002. Inventories and lists are judged by
+`inventory_by_02.py`, written from document 02, and by eccodes. Where two judges speak, or an answer
+is written by hand, they have to agree.
 """
 
 import argparse
@@ -24,7 +25,7 @@ import reference
 import write_plans
 from copy_files import BEFORE, FULL, LARGEST_ROOM
 from fields_by_01 import (LEAST, PROCESS, PRODUCT_START, SUPPORTED, SURFACES, TIME, fields_by_01,
-                          signed, start_of)
+                          offsets_by_01, signed, start_of)
 from reference import FIRST_VALUES_OCTET, Part, Plan, Section, line_words, unsigned
 from walk_files import (A, A97, A117, CARRIED, END, MISSING, WITH_2, by_hand, cut_anywhere, least,
                         message, section, swept, whole)
@@ -158,6 +159,20 @@ def list_answer(outcome, detail, entries):
 
 def list_pair(text, room):
     return list_request(text, room), list_answer(*inventory_by_02.read_list(text, room))
+
+
+def offsets_request(template, reading=0):
+    """Reading 0 is the crate's; there is no other before document 02's Ticket 6."""
+    return b"O" + bytes([reading]) + octets_of(template, 2)
+
+
+def offsets_answer(indices):
+    return " ".join(["offsets"] + [word(index) for index in indices])
+
+
+def offsets_pair(template):
+    """An offsets request, answered by the ranges of document 01's source."""
+    return offsets_request(template), offsets_answer(offsets_by_01(template))
 
 
 def agreed(pair, by_reference):
@@ -681,6 +696,39 @@ def inventory_list(samples):
     return pairs + [(list_request(b"", 513), "bad")]
 
 
+# Rows of document 02's table, written by hand: indices of generating process, time and surfaces,
+# and the templates that have them.
+OFFSETS = {
+    (2, 8, 13): [0, 1100, 1101],
+    (2, 8, None): [32, 1000, 1099],
+    (2, None, None): [16, 89, 90, 254],
+    (15, 21, 24): [44],
+    (15, 21, 26): [45],
+    (2, 21, 26): [47],
+    (2, 22, 27): [83],
+    (2, 26, 5): [88],
+    (None, None, None): [50, 53, 54, 57, 58, 67, 68, *range(92, 99), 999, 1102, 65535],
+}
+LISTED_IN_ORDER = 1106      # templates: every row of the table, and some numbers behind the last
+
+
+def far_templates():
+    """About each power of two; 44, 88, the last row's number and the next with a bit more; every
+    template of one octet with its octets exchanged."""
+    beside = {2**bit + more for bit in range(17) for more in (-2, -1, 0, 1, 44, 88, 1101, 1102)}
+    exchanged = {256 * template for template in range(256)}
+    return sorted((beside | exchanged) & set(range(LISTED_IN_ORDER, 65536)))
+
+
+def offsets_list():
+    """The last request names a reading that there is not."""
+    for indices, templates in OFFSETS.items():
+        for template in templates:
+            agreed((offsets_request(template), offsets_answer(indices)), offsets_pair(template))
+    pairs = [offsets_pair(template) for template in [*range(LISTED_IN_ORDER), *far_templates()]]
+    return pairs + [(offsets_request(44, reading=1), "bad")]
+
+
 # File and what gribwalk prints of it: as documents 01 and 02 have it; a second message that is
 # broken after a submessage; one octet too many, though the walk would end well.
 GRIBWALK = {
@@ -739,6 +787,7 @@ def main():
         "replay_write": message_list(given.samples),
         "replay_write_edges": message_edges_list(),
         "replay_inventory": inventory_list(given.samples),
+        "replay_offsets": offsets_list(),
     }
     for name, pairs in lists.items():
         assert write_list(given.out / name, pairs) <= 262144, name

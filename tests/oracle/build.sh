@@ -22,13 +22,14 @@ done
 for file in multigrid multiproduct single; do : > "$out/tree/encoder/message/$file.rs"; done
 
 # The crate's list of supported templates is not at hand. In its place stands WMO code table 4.0,
-# version 30, without reserved rows and without 65535.
+# version 30, without reserved rows and without 65535; requests of kind O have every number in it.
 table=${TABLE_4_0:-$(codes_info -d)/grib2/tables/30/4.0.table}
 [ -r "$table" ] || { echo "no code table 4.0; set TABLE_4_0" >&2; exit 2; }
 {
-    echo "pub(crate) const SUPPORTED_PROD_DEF_TEMPLATE_NUMBERS: &[u16] = &["
+    echo "use crate::standins::codetables::Supported;"
+    echo "pub(crate) const SUPPORTED_PROD_DEF_TEMPLATE_NUMBERS: Supported = Supported(&["
     awk '$1 ~ /^[0-9]+$/ && $1 != 65535 { print "    " $1 "," }' "$table"
-    echo "];"
+    echo "]);"
 } > "$out/tree/codetables.rs"
 
 # Overflow checks on: what the crate subtracts below zero stops it, and does not wrap round.

@@ -1,6 +1,6 @@
 #!/usr/bin/env -S python3 -B
-"""Feed the crate's own code and ours the same files, payloads, numbers and plans, and compare every
-result.
+"""Feed the crate's own code and ours the same files, payloads, numbers, templates and plans, and
+compare every result.
 
 The report counts the files by outcome. Exit status 1 at any difference, or if an outcome comes too
 seldom.
@@ -21,6 +21,7 @@ import files
 import payloads
 import plans
 import verdict
+from replay_lists import offsets_answer, offsets_pair
 from sides import (LARGEST_TABLES, Oracle, Replay, Told, fields_request, pull_request,
                    signed_request, walk_request, write_request)
 
@@ -132,6 +133,19 @@ class Comparison:
         for octets, told in zip(cases, self.oracle.answers(b"S", cases)):
             self.ask("signed", signed_request(octets), payloads.signed_expected(octets, told))
 
+    # --- Templates
+
+    def offsets(self):
+        """Of every template number, supported or not; 01's ranges judge each too."""
+        requests = [b"\4" + payloads.telling_places(template) for template in range(65_536)]
+        for template, told in enumerate(self.oracle.answers(b"O", requests)):
+            by_crate = offsets_answer(payloads.indices_told(told))
+            request, by_01 = offsets_pair(template)
+            if by_crate != by_01:
+                self.difference("01's and the crate's offsets", f"template {template}", by_crate,
+                                by_01)
+            self.ask("offsets", request, by_crate)
+
     # --- The writer
 
     def plans(self, all_plans):
@@ -211,7 +225,7 @@ def main():
                          help="how many plans without fault; each has faulty copies")
     options.add_argument("--every", type=int, default=1, metavar="N",
                          help="every N-th only: a quick look, which counts no outcome")
-    options.add_argument("--kinds", default="WPFSM", help="kinds of requests that ours is asked")
+    options.add_argument("--kinds", default="WPFSOM", help="kinds of requests that ours is asked")
     given = options.parse_args()
     comparison = Comparison(given)
 
@@ -223,6 +237,7 @@ def main():
     comparison.files(some(files.carried_files()))
     comparison.fields(some(payloads.all_fields(given.seed)))
     comparison.signed(some(payloads.all_signed(given.seed)))
+    comparison.offsets()
     comparison.plans(some(plans.all_plans(given.seed, given.plans)))
     comparison.intended()
     comparison.replay.run()

@@ -1,8 +1,9 @@
 """Payloads and signed numbers by themselves: lengths and templates that a listed section seldom
-has."""
+has, and what tells the offsets of a template."""
 
 import random
 
+from fields_by_01 import PRODUCT_START
 from reference import LEAST
 
 LEAST_OCTETS = {0: 16} | {number: LEAST[number] for number in (1, 3, 4, 5, 6)}
@@ -41,6 +42,21 @@ def fields_expected(number, told):
         return told[0]
     assert told[0].split()[0] in NO_SECTION, told
     return f"fields {number} none"
+
+
+def telling_places(template):
+    """A payload of section 4 in which each octet from the template's first one on is its place."""
+    return bytes(2) + template.to_bytes(2, "big") + bytes(range(PRODUCT_START, 256))
+
+
+def indices_told(told):
+    """Where the crate read generating process, unit of time and first surface of such a payload.
+    That it tells category and number shows that it counts the template as supported."""
+    line, = told
+    _, _, _, _, category, number, process, unit, _, surface, *_ = line.split()
+    assert (category, number) == ("4", "5"), told
+    return [None if place == "none" else int(place) - PRODUCT_START
+            for place in (process, unit, surface)]
 
 
 def all_signed(seed):

@@ -40,9 +40,17 @@ FAULTS = {
              "Fault::Cut((HEADER_SIZE - left) as u32)"),
     ]),
     # Where the Manual has it; 01 and the crate have it at index 2.
-    "process_of_47": ("template 47's process is at index 15, in definition and code", "fields", [
+    "process_of_47": ("template 47's process is at index 15, in definitions and code", "fields", [
         Edit("products/specs/Templates.antt", "(47 to 47 is At 2)", "(47 to 47 is At 15)"),
-        Edit("products/src/templates.rt", "47 => Index::At(2),", "47 => Index::At(15),"),
+        Edit("products/specs/Rows.antt", "row 2 21 26", "row 15 21 26"),
+        Edit("products/src/templates.rt", "02 * PROCESS + 21 * TIME + 26 * SURFACES, // 47",
+             "15 * PROCESS + 21 * TIME + 26 * SURFACES, // 47"),
+    ]),
+    # An unsupported template: its fields are none whatever its row says.
+    "surfaces_of_16": ("template 16 has surfaces as 15 has, in definitions and code", "offsets", [
+        Edit("products/specs/Templates.antt", "(0 to 15 is At 13)", "(0 to 16 is At 13)"),
+        Edit("products/specs/Rows.antt", "row 2 8 13 ∷ row 2 no no", "row 2 8 13 ∷ row 2 no 13"),
+        Edit("products/src/templates.rt", "NO * SURFACES, // 16", "13 * SURFACES, // 16"),
     ]),
     "reserved_octets": ("the two reserved octets change places, in definition and code", "write", [
         Edit("writer/specs/Message.antt",
@@ -98,7 +106,7 @@ def main():
                          help="the folder below which eccodes' samples are")
     options.add_argument("--every", type=int, default=20, metavar="N",
                          help="compare every N-th file")
-    options.add_argument("--kinds", default="WPFSM")
+    options.add_argument("--kinds", default="WPFSOM")
     # argparse holds the empty list to the choices, too.
     options.add_argument("fault", nargs="*", choices=[*FAULTS, []], help="all, if none is named")
     given = options.parse_args()

@@ -18,6 +18,7 @@ use index::stored;
 use index::unplaced;
 use lines::put_lines;
 use order::Place;
+use products::ROWS;
 
 pub enum Inventoried {
     // The text stands in the buffer's first octets, so many of them.
@@ -38,7 +39,9 @@ pub fn inventory(file: &[u8], text: &mut [u8]) -> Inventoried
     if MOST_OCTETS < file.len() as u64 {
         return Inventoried::Refused(Refusal::FileTooLong, Place(0), Offset(0));
     }
-    let measured = put_lines(file, &mut text[..0]);
+    // Laid out once, for every line of both passes.
+    let templates: &[u32] = &ROWS;
+    let measured = put_lines(templates, file, &mut text[..0]);
     let outcome = measured.outcome;
     let octets = measured.octets;
     match outcome {
@@ -47,7 +50,7 @@ pub fn inventory(file: &[u8], text: &mut [u8]) -> Inventoried
             if text.len() < octets {
                 return Inventoried::TextTooSmall;
             }
-            let written = put_lines(file, text);
+            let written = put_lines(templates, file, text);
             Inventoried::Whole(written.octets)
         }
     }

@@ -4,6 +4,7 @@ ghost use mathlib.Core.Path.{_≡_};
 ghost use mathlib.Core.List.{_++_};
 ghost use Prim.Native.Nat.{_+_, _*_, _≤_};
 ghost use lib.ListN.{length, take, drop};
+ghost use Rattle.products.specs.Rows.{rows};
 ghost use Rattle.entries.specs.Entries.{entryLine, textOf, mostLine};
 ghost use Rattle.index.specs.Bounds.{mostOctets, unlimited};
 ghost use Rattle.index.specs.Walk.{walked};
@@ -23,7 +24,7 @@ use index::Outcome;
 use index::unlisted;
 use order::Place;
 use order::completing;
-use products::product_of;
+use products::product_by;
 use reading::Seen;
 use reading::look;
 use reading::start;
@@ -74,8 +75,8 @@ fn put_entry(text: &mut [u8], at: usize, entry: Entry) -> usize
 }
 
 // The line of what is remembered.
-fn put_memory(file: &[u8], text: &mut [u8], at: usize, memory: Memory) -> usize
-    requires { ⌜ at ≤ mostLine * mostOctets ⌝ }
+fn put_memory(templates: &[u32], file: &[u8], text: &mut [u8], at: usize, memory: Memory) -> usize
+    requires { ⌜ (now templates ≡ rows) × (at ≤ mostLine * mostOctets) ⌝ }
     ensures { λ r. ⌜ PutText (textOf (entriesIn (now (file .entry)) memory)) at
         (now (text .entry)) (now (text .exit)) r ⌝ }
 {
@@ -85,13 +86,14 @@ fn put_memory(file: &[u8], text: &mut [u8], at: usize, memory: Memory) -> usize
     let MaybeIndicator::Fields(indicator) = known else {
         return at;
     };
-    let product = product_of(payload_of(file, fourth));
+    let product = product_by(templates, payload_of(file, fourth));
     put_entry(text, at, entry_in(memory, indicator, product))
 }
 
-// All lines of a file that walks clean. On a refusal those before it may stand.
-pub(crate) fn put_lines(file: &[u8], text: &mut [u8]) -> Listing
-    requires { ⌜ length (now file) ≤ mostOctets ⌝ }
+// All lines of a file that walks clean. On a refusal those before it may stand. The table of
+// templates is lent: a constant array is laid out anew wherever it is named.
+pub(crate) fn put_lines(templates: &[u32], file: &[u8], text: &mut [u8]) -> Listing
+    requires { ⌜ (now templates ≡ rows) × (length (now file) ≤ mostOctets) ⌝ }
     ensures { λ r. ⌜ PutLines (now (file .entry)) (now (text .entry)) (now (text .exit)) r ⌝ }
 {
     let mut reading = start();
@@ -115,7 +117,7 @@ pub(crate) fn put_lines(file: &[u8], text: &mut [u8]) -> Listing
                     // The line is of what was remembered before the section: a new section 4
                     // completes the line of the old one.
                     let with_it = remembered(memory, section, Due::Line);
-                    octets = put_memory(file, text, octets, memory);
+                    octets = put_memory(templates, file, text, octets, memory);
                     memory = with_it;
                 } else if section.number == Indicator::NUMBER {
                     memory.zeroth = section;
@@ -124,7 +126,7 @@ pub(crate) fn put_lines(file: &[u8], text: &mut [u8]) -> Listing
                 }
             }
             Seen::Closes(section, next) => {
-                octets = put_memory(file, text, octets, memory);
+                octets = put_memory(templates, file, text, octets, memory);
                 memory = remembered(memory, section, Due::LastLine);
                 last = Listed {
                     place: here,

@@ -1,5 +1,8 @@
--- `Ranges` has what a table of ranges says of a whole interval, `Indices` what stands at an index of a template,
--- `Within` how large the numbers are that octets say.
+-- `EachEntry` has what one test says of every entry of a list, `Ranges` what a table of ranges says of
+-- a whole interval, `Rows` that the table of offsets says what the ranges say, `Indices` what stands
+-- at an index of a template, `Within` how large the numbers are that octets say.
+pub mod EachEntry
 pub mod Ranges
+pub mod Rows
 pub mod Indices
 pub mod Within

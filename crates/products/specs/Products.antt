@@ -9,6 +9,7 @@ use Rattle.octets.specs.Signed.{signedOf}
 use Rattle.octets.specs.declared.Signed.{Signed}
 use Rattle.octets.specs.declared.Signed.the-variants.{Number, NoNumber}
 use Rattle.products.specs.Templates.{isSupported, processIndex, timeIndex, surfacesIndex}
+use Rattle.products.specs.Rows.{offsetsBy}
 use Rattle.products.specs.declared.templates.Index.{Index}
 use Rattle.products.specs.declared.templates.Index.the-variants.{At, Absent}
 use Rattle.products.specs.declared.MaybeOctet.{MaybeOctet}
@@ -94,4 +95,17 @@ productOf s =
       process = processOf s;
       time = forecastOf s;
       surfaces = fixedOf s;
+    }
+
+-- all five by lent rows
+unfoldable pub productBy : List ℕ → List ℕ → Product
+productBy lent s =
+    let by = offsetsBy lent in
+    let told = supportedOf s in
+    record {
+      category = categoryOf s;
+      number = parameterOf s;
+      process = byTemplate NoOctet (λ n. byIndex NoOctet octetOf s (by n .process)) told;
+      time = byTemplate NoTime (λ n. byIndex NoTime timeOf s (by n .time)) told;
+      surfaces = byTemplate NoSurfaces (λ n. byIndex NoSurfaces surfacesOf s (by n .surfaces)) told;
     }

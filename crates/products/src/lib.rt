@@ -4,7 +4,7 @@
 ghost use mathlib.Core.Path.{_≡_};
 ghost use lib.ListN.{drop};
 ghost use Rattle.products.specs.Products.{octetOf, timeOf, surfaceOf, surfacesOf};
-ghost use Rattle.products.specs.Products.{supportedOf, byIndex, productOf};
+ghost use Rattle.products.specs.Products.{supportedOf, byIndex, productBy, productOf};
 ghost use Rattle.products.specs.declared.MaybeOctet.the-variants.{NoOctet};
 ghost use Rattle.products.specs.declared.MaybeTime.the-variants.{NoTime};
 ghost use Rattle.products.specs.declared.MaybeSurfaces.the-variants.{NoSurfaces};
@@ -16,7 +16,11 @@ use octets::be16;
 use octets::be32;
 use octets::sign_and_size;
 use sections::ProdDefinition;
-use templates::Index;
+pub use templates::Index;
+pub use templates::Offsets;
+pub use templates::ROWS;
+pub use templates::offsets_at;
+pub use templates::offsets_by;
 
 // The template's first octet, and where each template has the parameter's category and number.
 const TEMPLATE: usize = 4;
@@ -185,11 +189,12 @@ fn surfaces_at(payload: &[u8], index: Index) -> MaybeSurfaces
     surfaces_of(from(from(payload, TEMPLATE), at))
 }
 
-// Category, number, generating process, time and surfaces of a payload of section 4: each is none
-// if the template is unsupported, has no index for it, or the payload ends too soon; both surfaces
-// or none. The template is judged once; each field is then there or none by itself.
-pub fn product_of(payload: &[u8]) -> Product
-    ensures { λ r. ⌜ r ≡ productOf (now (payload .entry)) ⌝ }
+// Category, number, generating process, time and surfaces of a payload of section 4, by a lent
+// table of templates: each is none if the template is unsupported, has no index for it, or the
+// payload ends too soon; both surfaces or none. The template is judged and its row looked up once;
+// each field is then there or none by itself.
+pub fn product_by(rows: &[u32], payload: &[u8]) -> Product
+    ensures { λ r. ⌜ r ≡ productBy (now (rows .entry)) (now (payload .entry)) ⌝ }
 {
     let Supported::Template(template) = supported_of(payload) else {
         return Product {
@@ -202,14 +207,24 @@ pub fn product_of(payload: &[u8]) -> Product
     };
     let category = octet_at(payload, Index::At(CATEGORY));
     let number = octet_at(payload, Index::At(PARAMETER));
-    let process = octet_at(payload, templates::generating_process(template));
-    let time = time_at(payload, templates::forecast_time(template));
-    let surfaces = surfaces_at(payload, templates::fixed_surfaces(template));
+    let offsets = offsets_by(rows, template);
+    let process = offsets.process;
+    let time = offsets.time;
+    let surfaces = offsets.surfaces;
     Product {
         category,
         number,
-        process,
-        time,
-        surfaces,
+        process: octet_at(payload, process),
+        time: time_at(payload, time),
+        surfaces: surfaces_at(payload, surfaces),
     }
+}
+
+// Category, number, generating process, time and surfaces of a payload of section 4, by the table
+// `ROWS`. Each call lays that table out anew: whoever asks for many payloads borrows it once and
+// lends it to `product_by`.
+pub fn product_of(payload: &[u8]) -> Product
+    ensures { λ r. ⌜ r ≡ productOf (now (payload .entry)) ⌝ }
+{
+    product_by(&ROWS, payload)
 }

@@ -3,7 +3,7 @@ use Prim.Native.Nat.{ℕ}
 use mathlib.Core.List.{List, [], _∷_}
 use mathlib.Core.Path.{_≡_, refl, ap}
 use base.Logic.{id⊢}
-use mir.Syntax.{Width, w8, w64}
+use mir.Syntax.{Width, w8, w16, w32, w64}
 use contract.Monad.{fact-mono}
 use denote.Plain.{UInt, uint-lawful}
 use denote.Ref.{RefT, now}
@@ -142,6 +142,16 @@ module _ {M : Type 1} where
     ProdDefinition-from-payload = by 1 (to-read 0 tt (number w8) ∷ []) (λ n. refl) (λ 𝓤 H A content run κs a. tt) ProdDefinition.from_payload.Met.met (λ n r e. id⊢ (n .memory) _);
     ReprDefinition-from-payload = by 1 (to-read 0 tt (number w8) ∷ []) (λ n. refl) (λ 𝓤 H A content run κs a. tt) ReprDefinition.from_payload.Met.met (λ n r e. id⊢ (n .memory) _);
     BitMap-from-payload = by 1 (to-read 0 tt (number w8) ∷ []) (λ n. refl) (λ 𝓤 H A content run κs a. tt) BitMap.from_payload.Met.met (λ n r e. id⊢ (n .memory) _);
+    products-offsets-at =
+        by 0 (by-value (plain-number w16) ∷ []) (λ n. refl) (λ 𝓤 H A content run κs a. tt)
+        products.offsets_at.Met.met (λ n r e. id⊢ (n .memory) _);
+    products-offsets-by =
+        by 1 (to-read 0 tt (number w32) ∷ by-value (plain-number w16) ∷ []) (λ n. refl)
+        (λ 𝓤 H A content run κs a. tt) products.offsets_by.Met.met
+        (λ n r e. id⊢ (n .memory) _);
+    products-product-by =
+        by 2 (to-read 0 tt (number w32) ∷ to-read 1 tt (number w8) ∷ []) (λ n. refl)
+        (λ 𝓤 H A content run κs a. tt) products.product_by.Met.met (λ n r e. id⊢ (n .memory) _);
     products-product-of = by 1 (to-read 0 tt (number w8) ∷ []) (λ n. refl) (λ 𝓤 H A content run κs a. tt) products.product_of.Met.met (λ n r e. id⊢ (n .memory) _);
     framing-framed-at = by 1 (to-read 0 tt (number w8) ∷ by-value plain-Cursor ∷ []) (λ n. refl) (λ 𝓤 H A content run κs a. tt) framing.framed_at.Met.met (λ n r e. id⊢ (n .memory) _);
     framing-next-start = by 1 (to-read 0 tt (number w8) ∷ by-value (plain-number w64) ∷ []) (λ n. refl) (λ 𝓤 H A content run κs a. tt) framing.next_start.Met.met (λ n r e. fact-mono (n .memory) _ _ (next-start-is (now (n .arguments .0)) (n .arguments .1 .0) r));

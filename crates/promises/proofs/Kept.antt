@@ -1,5 +1,6 @@
 -- The three demands of specs/Promises.antt are kept.
 use mathlib.Core.Path.{sym, ap, _∙_}
+use Rattle.products.proofs.Rows.{table-is-the-ranges}
 use Rattle.index.specs.Numbers.{endOf}
 use Rattle.index.specs.Bounds.{unlimited}
 use Rattle.index.specs.Walk.{Told, walked}
@@ -59,6 +60,7 @@ demand-2 =
       missing = how-much-is-missing;
       starts = where-messages-start;
       stands = where-messages-stand;
+      offsets = table-is-the-ranges;
       starred = starred-hold;
       others = others-hold;
       each-refusal = witnesses-hold;

@@ -3,6 +3,7 @@ use Prim.Native.Nat.{ℕ, _≤_}
 use mathlib.Core.Path.{_≡_}
 use mathlib.Core.List.{List, map}
 use lib.ListN.{length, take}
+use Rattle.products.specs.Rows.{TableIsTheRanges}
 use Rattle.index.specs.Numbers.{endOf}
 use Rattle.index.specs.Bounds.{unlimited}
 use Rattle.index.specs.Walk.{walked}
@@ -49,8 +50,7 @@ pub record Demand1 : Type 2 where
 -- Rust on every file (to 2^40 octets) on which it doesn't overflow and whose lines the tables hold.
 -- An accepted plan is written as defined and reads back.
 pub record Demand2 : Type 0 where
-  -- a row is a section as it stands in the file, each where 01 says, none left out; a line has the
-  -- last section of each number before its section 7, one line for each 7
+  -- rows are the file's sections, none left out; a line has the last of each number before its 7
   pub rows-are-laid-out : pins.RowsAreLaidOut
   pub over-tells-all : pins.OverTellsAll
   pub just-read-stands-next : pins.JustReadStandsNext
@@ -63,6 +63,7 @@ pub record Demand2 : Type 0 where
   pub missing : HowMuchIsMissing  -- 02, Ticket 2: 2 tells an octet at least; each that comes counts
   pub starts : WhereMessagesStart  -- 02, Ticket 11: with 0 in every file; 11 is given inside alone
   pub stands : WhereMessagesStand  -- 02, Ticket 7: where its section 0 says, to its section 8's end
+  pub offsets : TableIsTheRanges  -- 02, Ticket 4: 1,102 rows as 01's ranges say; no index above
   pub starred : samples.StarredHold  -- document 01's samples, and walks that give each refusal
   pub others : samples.OthersHold
   pub each-refusal : witnesses.WitnessesHold
@@ -85,14 +86,13 @@ pub record Demand2 : Type 0 where
   pub plan-taken : plan.PlanTakenExactlyWhen
   pub one-message : plan.OneMessageIsInOrder
   pub reads-back : plan.WrittenReadsBack
-  -- the Rust, transcribed: where it does not overflow and the tables hold its lines, both walks and
-  -- the pull reader give what it tells, which has no count of missing octets. It overflows exactly
-  -- where 01's additions refuse. The transcription is tested (`tests/oracle/transcription.py`)
+  -- the Rust, transcribed (tested: `tests/oracle/transcription.py`): where it does not overflow and
+  -- the tables hold its lines, walks and pull reader give what it tells (it counts nothing missing)
   pub walk-is-the-rust's : rust.WalkEqualsTheRust
   pub numbers-are-the-rust's : rust.WalkNumbersEqualsTheRust
   pub pull-is-the-rust's : rust.PullEqualsTheRust
   pub open-loses-nothing : OpenLosesNothing  -- its 0 for "goes on" is turned into that: one to one
-  pub rust-overflows : OverflowsExactlyWhen
+  pub rust-overflows : OverflowsExactlyWhen  -- exactly where 01's additions refuse
   pub writes-as-the-rust : WritesAsTheRust  -- the same octets of every accepted plan,
   pub every-plan-nested : EveryAcceptedPlanIsNested  -- which is a message of the Rust's
 

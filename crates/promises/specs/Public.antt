@@ -6,7 +6,7 @@
 use Prim.Native.Nat.{ℕ}
 use mathlib.Core.List.{List, [], _∷_}
 use denote.Array.{Array}
-use denote.Builtin.{u8, u64, usize}
+use denote.Builtin.{u8, u16, u32, u64, usize}
 use denote.Ref.{now}
 use Rattle.octets.proofs as octets
 use Rattle.sections.proofs as sections
@@ -58,7 +58,9 @@ use Rattle.sections.specs.GridDefinition.{gridDefinitionOf}
 use Rattle.sections.specs.ProdDefinition.{prodDefinitionOf}
 use Rattle.sections.specs.ReprDefinition.{reprDefinitionOf}
 use Rattle.sections.specs.BitMap.{bitMapOf}
-use Rattle.products.specs.Products.{productOf}
+use Rattle.products.specs.Templates.{offsetsOf}
+use Rattle.products.specs.Rows.{offsetsBy}
+use Rattle.products.specs.Products.{productOf, productBy}
 use Rattle.framing.specs.Framing.{framed, readAt}
 use Rattle.framing.specs.Search.{nextStart}
 use Rattle.order.specs.Order.{judged, judgedRead, completes, isBetween, orderOf}
@@ -135,9 +137,16 @@ pub record PublicFunctions (M : Type 1) : Type 2 where
       (λ (payload, _). reprDefinitionOf payload)
   pub BitMap-from-payload : Gives M 1 (lent 0 tt u8 ∷ []) BitMap.from_payload.clauses
       BitMap.from_payload.Symbol.routine (λ (payload, _). bitMapOf payload)
-  -- products: the product fields
+  -- products: where a template holds what, and the product fields, by our table and by a lent one
+  pub products-offsets-at : Gives M 0 (value u16 ∷ []) products.offsets_at.clauses
+      products.offsets_at.Symbol.routine (λ (template, _). offsetsOf template)
+  pub products-offsets-by : Gives M 1 (lent 0 tt u32 ∷ value u16 ∷ []) products.offsets_by.clauses
+      products.offsets_by.Symbol.routine (λ (rows, (template, _)). offsetsBy rows template)
   pub products-product-of : Gives M 1 (lent 0 tt u8 ∷ []) products.product_of.clauses
       products.product_of.Symbol.routine (λ (payload, _). productOf payload)
+  pub products-product-by : Gives M 2 (lent 0 tt u32 ∷ lent 1 tt u8 ∷ [])
+      products.product_by.clauses products.product_by.Symbol.routine
+      (λ (rows, (payload, _)). productBy rows payload)
   -- framing: what stands at a cursor, and where the next message starts
   pub framing-framed-at : Gives M 1 (lent 0 tt u8 ∷ value Cursor.the-row ∷ [])
       framing.framed_at.clauses framing.framed_at.Symbol.routine

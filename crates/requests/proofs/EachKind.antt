@@ -1,20 +1,24 @@
--- The laws of each kind of request: that it is bad where its end lies past the input's, and where a
--- table or a destination is over its limit; itself where not; and that its octets then stand.
+-- The laws of each kind of request: that it is bad where its end lies past the input's, where a
+-- table or a destination is over its limit, or its reading is not known; itself where not; and that
+-- its octets then stand.
 use mathlib.Core.Path.{_≡_, refl}
 use mathlib.Core.Bool.{Bool, true, false}
 use mathlib.Core.List.{List}
 use Prim.Native.Nat.{ℕ, _+_, _*_, _<_, _≤_}
 use native.Mathlib.Omega.{arith}
-use borrow.Author.Tests.{lt-ltb, le-ltb, ltb-false}
-use lib.Dec.{ltb}
+use borrow.Author.Tests.{lt-ltb, le-ltb, ltb-false, ne-eqb}
+use lib.Dec.{eqb, ltb}
 use lib.ListN.{length, getD}
 use Rattle.octets.specs.Words.{pick}
 use Rattle.octets.specs.BigEndian.{beAt}
 use Rattle.requests.specs.Requests.{walkRequestAt, pullRequestAt, intoRequestAt}
 use Rattle.requests.specs.Requests.{writeRequestAt, fieldsRequestAt, signedRequestAt, listRequestAt}
+use Rattle.requests.specs.Requests.{offsetsRequestAt}
 use Rattle.requests.specs.declared.Writing.{Writing}
 use Rattle.requests.specs.declared.Request.{Request}
-use Rattle.requests.specs.declared.Request.the-variants.{Walk, Pull, Copy, Write, Fields, Signed, Inventory, Bad}
+use Rattle.requests.specs.declared.Request.the-variants.{Walk, Pull, Copy, Write}
+use Rattle.requests.specs.declared.Request.the-variants.{Fields, Signed, Inventory}
+use Rattle.requests.specs.declared.Request.the-variants.{Offsets, Bad}
 use Rattle.requests.specs.declared.Request.the-variants as request
 use Rattle.requests.proofs.Stands.{Stands, Roomed}
 
@@ -201,3 +205,26 @@ list-stands s at =
       octets = record { behind = omega arith; ordered = omega arith; within = ltb-false _ _ e };
       room = ltb-false _ _ f;
     }))
+
+-- `O`
+module _ (s : List ℕ) (at : ℕ) where
+  pub offsets-cut : length s < at + 4 → Bad ≡ offsetsRequestAt s at
+  unfolding offsetsRequestAt
+  offsets-cut h = simp (lt-ltb _ _ h)
+
+  pub offsets-of-another-reading : at + 4 ≤ length s → (getD s (at + 1) 0 ≡ 0 → ⊥)
+      → Bad ≡ offsetsRequestAt s at
+  unfolding offsetsRequestAt
+  offsets-of-another-reading h o = simp (le-ltb _ _ h, ne-eqb _ _ o)
+
+  pub offsets-whole : (template : ℕ) → template ≡ beAt s (at + 2) 2 → at + 4 ≤ length s
+      → getD s (at + 1) 0 ≡ 0 → Offsets template (at + 4) ≡ offsetsRequestAt s at
+  unfolding offsetsRequestAt
+  offsets-whole template e h k = simp (← e, le-ltb _ _ h, k)
+
+  pub offsets-stands : Stands s at (offsetsRequestAt s at)
+  unfolding offsetsRequestAt
+  offsets-stands =
+      pick-by (Stands s at) (ltb (length s) (at + 4)) (λ e. tt) (λ e.
+      pick-by (Stands s at) (eqb (getD s (at + 1) 0) 0)
+      (λ f. record { later = omega arith; inside = ltb-false _ _ e }) (λ f. tt))

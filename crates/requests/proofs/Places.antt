@@ -7,10 +7,14 @@ use lib.Dec.{eqb, leb}
 use lib.ListN.{length, getD}
 use Rattle.requests.specs.Requests.{requestAt, placeAfter}
 use Rattle.requests.specs.declared.Request.{Request}
-use Rattle.requests.specs.declared.Request.the-variants.{Walk, Pull, Copy, Write, Fields, Signed, Inventory, Bad}
+use Rattle.requests.specs.declared.Request.the-variants.{Walk, Pull, Copy, Write}
+use Rattle.requests.specs.declared.Request.the-variants.{Fields, Signed, Inventory}
+use Rattle.requests.specs.declared.Request.the-variants.{Offsets, Bad}
 use Rattle.requests.specs.declared.Request.the-variants as request
-use Rattle.requests.proofs.Stands.{Stands}
-use Rattle.requests.proofs.EachKind.{pick-by, walk-stands, pull-stands, copy-stands, write-stands, fields-stands, signed-stands, inventory-stands, list-stands}
+use Rattle.requests.proofs.Stands.{Stands, Goes}
+use Rattle.requests.proofs.EachKind.{pick-by, walk-stands, pull-stands, copy-stands}
+use Rattle.requests.proofs.EachKind.{write-stands, fields-stands, signed-stands}
+use Rattle.requests.proofs.EachKind.{inventory-stands, list-stands, offsets-stands}
 
 -- every kind
 stands : (s : List ℕ) (at : ℕ) → Stands s at (requestAt s at)
@@ -24,16 +28,12 @@ stands s at =
     pick-by (Stands s at) (eqb (getD s at 0) 70) (λ e. fields-stands s at) (λ e.
     pick-by (Stands s at) (eqb (getD s at 0) 83) (λ e. signed-stands s at) (λ e.
     pick-by (Stands s at) (eqb (getD s at 0) 73) (λ e. inventory-stands s at) (λ e.
-    pick-by (Stands s at) (eqb (getD s at 0) 82) (λ e. list-stands s at) (λ e. tt)))))))))
+    pick-by (Stands s at) (eqb (getD s at 0) 82) (λ e. list-stands s at) (λ e.
+    pick-by (Stands s at) (eqb (getD s at 0) 79) (λ e. offsets-stands s at) (λ e. tt))))))))))
 
 -- the request that was read
 pub stands-at : (s : List ℕ) (at : ℕ) (r : Request) → requestAt s at ≡ r → Stands s at r
 stands-at s at r e = subst (Stands s at) e (stands s at)
-
--- the next request starts behind the present one, at the input's end at the latest
-pub record Goes (s : List ℕ) (at next : ℕ) : Type 0 where
-  pub later : at < next
-  pub inside : next ≤ length s
 
 goes-by : (s : List ℕ) (at : ℕ) (r : Request) → at < length s → Stands s at r → Goes s at (placeAfter s r)
 unfolding placeAfter
@@ -45,6 +45,7 @@ goes-by s at (Fields number from to) h w = record { later = omega arith; inside 
 goes-by s at (Signed from to) h w = record { later = omega arith; inside = w .within }
 goes-by s at (Inventory d from to) h w = record { later = omega arith; inside = w .octets .within }
 goes-by s at (request.List m from to) h w = record { later = omega arith; inside = w .octets .within }
+goes-by s at (Offsets template to) h w = w
 goes-by s at Bad h w = record { later = h; inside = omega arith }
 
 pub goes : (s : List ℕ) (at next : ℕ) → next ≡ placeAfter s (requestAt s at) → at < length s → Goes s at next

@@ -9,7 +9,8 @@ use Rattle.octets.specs.BigEndian.{beAt}
 use Rattle.requests.specs.declared.Request.{Request}
 use Rattle.requests.specs.declared.Writing.{Writing}
 use Rattle.requests.specs.declared.Request.the-variants.{Walk, Pull, Copy, Write}
-use Rattle.requests.specs.declared.Request.the-variants.{Fields, Signed, Inventory, Bad}
+use Rattle.requests.specs.declared.Request.the-variants.{Fields, Signed, Inventory}
+use Rattle.requests.specs.declared.Request.the-variants.{Offsets, Bad}
 use Rattle.requests.specs.declared.Request.the-variants as request
 use Rattle.requests.specs.declared.kinds.FileInto.{FileInto}
 use Rattle.requests.specs.declared.kinds.FileInto.the-variants as into
@@ -110,8 +111,15 @@ listRequestAt input at =
     let to = from + beAt input (at + 3) 4 in
     whole input to (upTo 512 m (request.List m from to))
 
+-- `O`: reading (1): 0 as the crate, another is bad; template number (2)
+unfoldable pub offsetsRequestAt : List ℕ → ℕ → Request
+offsetsRequestAt input at =
+    let to = at + 4 in
+    whole input to
+    (pick (eqb (getD input (at + 1) 0) 0) (Offsets (beAt input (at + 2) 2) to) Bad)
+
 -- the request of a kind octet at `at`: 87 is `W`, 80 is `P`, 67 is `C`, 77 is `M`, 70 is `F`, 83 is
--- `S`, 73 is `I`, 82 is `R`, another kind is bad
+-- `S`, 73 is `I`, 82 is `R`, 79 is `O`, another kind is bad
 abbrev pub ofKind : ℕ → List ℕ → ℕ → Request
 ofKind kind input at =
     pick (eqb kind 87) (walkRequestAt input at)
@@ -121,7 +129,8 @@ ofKind kind input at =
     (pick (eqb kind 70) (fieldsRequestAt input at)
     (pick (eqb kind 83) (signedRequestAt input at)
     (pick (eqb kind 73) (intoRequestAt Inventory input at)
-    (pick (eqb kind 82) (listRequestAt input at) Bad)))))))
+    (pick (eqb kind 82) (listRequestAt input at)
+    (pick (eqb kind 79) (offsetsRequestAt input at) Bad))))))))
 
 -- the request at `at`; where the input has no octet, a bad one
 unfoldable pub requestAt : List ℕ → ℕ → Request
@@ -137,4 +146,5 @@ placeAfter input (Fields number from to) = to
 placeAfter input (Signed from to) = to
 placeAfter input (Inventory d from to) = to
 placeAfter input (request.List m from to) = to
+placeAfter input (Offsets template to) = to
 placeAfter input Bad = length input

@@ -6,7 +6,7 @@ ghost use Prim.Native.Nat.{ℕ, _<_};
 ghost use lib.ListN.{length};
 ghost use Rattle.requests.specs.Requests.{walkRequestAt, pullRequestAt, intoRequestAt};
 ghost use Rattle.requests.specs.Requests.{writeRequestAt, fieldsRequestAt, signedRequestAt};
-ghost use Rattle.requests.specs.Requests.{listRequestAt, requestInto};
+ghost use Rattle.requests.specs.Requests.{listRequestAt, offsetsRequestAt, requestInto};
 ghost use Rattle.requests.specs.declared.Request.{Request};
 ghost use Rattle.requests.specs.declared.Request.the-variants.{Copy, Inventory};
 use crate::Request;
@@ -41,6 +41,9 @@ const SIGNED_HEAD: usize = 2;
 // Octets before a list: kind, entries, length.
 const LIST_HEAD: usize = 7;
 
+// Octets of a request for offsets: kind, reading, template number.
+const OFFSETS_HEAD: usize = 4;
+
 // The largest tables that a walk can ask for: 2,048 rows of three numbers, and so many lines.
 const MOST_NUMBERS: u16 = 6_144;
 
@@ -51,6 +54,9 @@ const MOST_ROOM: u32 = 262_144;
 
 // The largest table that a list can ask for.
 const MOST_ENTRIES: u16 = 512;
+
+// The reading of templates that is known: as the crate.
+const AS_CRATE: u8 = 0;
 
 // The file of a request that is answered into a destination of so many octets.
 pub(crate) enum FileInto {
@@ -251,5 +257,22 @@ pub(crate) fn list_request_at(input: &[u8], at: usize) -> Request
         room,
         from,
         to: from + octets,
+    }
+}
+
+// Reading (1); template number (2).
+pub(crate) fn offsets_request_at(input: &[u8], at: usize) -> Request
+    requires { ⌜ at < length (now input) ⌝ }
+    ensures { λ r. ⌜ r ≡ offsetsRequestAt (now (input .entry)) at ⌝ }
+{
+    if input.len() - at < OFFSETS_HEAD {
+        return Request::Bad;
+    }
+    if input[at + 1] != AS_CRATE {
+        return Request::Bad;
+    }
+    Request::Offsets {
+        template: two_octets(input, at + 2),
+        to: at + OFFSETS_HEAD,
     }
 }

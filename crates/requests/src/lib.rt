@@ -9,6 +9,7 @@ use kinds::copy_request_at;
 use kinds::fields_request_at;
 use kinds::inventory_request_at;
 use kinds::list_request_at;
+use kinds::offsets_request_at;
 use kinds::pull_request_at;
 use kinds::signed_request_at;
 use kinds::walk_request_at;
@@ -29,6 +30,8 @@ const SIGNED: u8 = b'S';
 const INVENTORY: u8 = b'I';
 
 const LIST: u8 = b'R';
+
+const OFFSETS: u8 = b'O';
 
 // A request's octets are those of the input from `from` up to `to`, where the next request starts.
 pub enum Request {
@@ -71,8 +74,13 @@ pub enum Request {
         from: usize,
         to: usize,
     },
-    // Of another kind, with a number over its limit, or cut by the end of the input: nothing after
-    // it can be told.
+    // Of a template of this number, supported or not.
+    Offsets {
+        template: u16,
+        to: usize,
+    },
+    // Of another kind, of another reading, with a number over its limit, or cut by the end of the
+    // input: nothing after it can be told.
     Bad,
 }
 
@@ -112,6 +120,7 @@ pub fn request_at(input: &[u8], at: usize) -> Request
         SIGNED => signed_request_at(input, at),
         INVENTORY => inventory_request_at(input, at),
         LIST => list_request_at(input, at),
+        OFFSETS => offsets_request_at(input, at),
         _ => Request::Bad,
     }
 }

@@ -13,6 +13,7 @@ mod watch;
 pub use datatypes::*;
 pub(crate) use parser::*;
 pub(crate) use reader::*;
+pub(crate) use standins::codetables::with_every_number;
 pub use standins::context::*;
 pub use standins::error::{self, *};
 pub(crate) use standins::readable;
@@ -269,6 +270,7 @@ fn answer(out: &mut String, kind: u8, octets: &[u8]) {
     match kind {
         b'W' => walk(out, octets),
         b'F' => fields(out, octets),
+        b'O' => with_every_number(|| fields(out, octets)),
         b'S' => signed(out, octets),
         b'M' => write(out, octets),
         _ => panic!("a request of another kind"),

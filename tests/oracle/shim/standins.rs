@@ -181,6 +181,29 @@ pub mod context {
     }
 }
 
+/// codetables.rs: the list of supported templates, of which the crate asks only whether a number is
+/// in it. `build.sh` writes its numbers.
+pub mod codetables {
+    use std::cell::Cell;
+
+    pub struct Supported(pub &'static [u16]);
+
+    thread_local!(static EVERY_NUMBER: Cell<bool> = const { Cell::new(false) });
+
+    impl Supported {
+        pub fn contains(&self, number: &u16) -> bool {
+            EVERY_NUMBER.get() || self.0.contains(number)
+        }
+    }
+
+    /// Runs `f` with every number in the list: what a template holds where shows of each.
+    pub fn with_every_number(f: impl FnOnce()) {
+        EVERY_NUMBER.set(true);
+        f();
+        EVERY_NUMBER.set(false);
+    }
+}
+
 /// def/grib2.rs: the records that are read or written. Their fields follow the crate's file of that
 /// name, which itself needs derive macros that are not at hand.
 pub mod def {

@@ -98,6 +98,12 @@ answer-list-requires : tie.Need-answer-list-requires
 answer-list-requires c κs =
     stands-at _ _ _ (sym (c .before .before .before .before .request-at .ensures) ∙ c .before .before .request8 .given .1) .room
 
+enum-known-request-9 : tie.Need-enum-known-request-9
+enum-known-request-9 c = search needs
+
+answer-offsets-requires : tie.Need-answer-offsets-requires
+answer-offsets-requires c κs = search needs
+
 enum-told : tie.Need-enum-told
 enum-told c = search needs
 
@@ -129,7 +135,12 @@ returns-8 : tie.Need-returns-8
 returns-8 c = sym (c .before .before .before .request8 .given .1) ∙ c .before .before .before .before .before .request-at .ensures
 
 returns-9 : tie.Need-returns-9
-returns-9 c = search needs
+returns-9 c =
+    let told = c .before .before in
+    sym (told .request9 .given .1) ∙ told .before .before .request-at .ensures
+
+returns-10 : tie.Need-returns-10
+returns-10 c = search needs
 
 pub answered-spec : {M : Type 1} → statement M
 answered-spec =
@@ -159,6 +170,8 @@ answered-spec =
     enum-known-request-8
     between-requires-7
     answer-list-requires
+    enum-known-request-9
+    answer-offsets-requires
     enum-told
     answer-bad-requires
     returns
@@ -169,4 +182,5 @@ answered-spec =
     returns-6
     returns-7
     returns-8
-    returns-9)
+    returns-9
+    returns-10)

@@ -28,6 +28,9 @@ enum-known-request-7 c = search needs
 enum-known-request-8 : tie.Need-enum-known-request-8
 enum-known-request-8 c = search needs
 
+enum-known-request-9 : tie.Need-enum-known-request-9
+enum-known-request-9 c = search needs
+
 enum-told : tie.Need-enum-told
 enum-told c = search needs
 
@@ -65,7 +68,11 @@ returns-8 c = rw (c .before .request8 .given .1)
 
 returns-9 : tie.Need-returns-9
 unfolding placeAfter
-returns-9 c = rw (c .enum-told .given .1)
+returns-9 c = rw (c .before .request9 .given .1)
+
+returns-10 : tie.Need-returns-10
+unfolding placeAfter
+returns-10 c = rw (c .enum-told .given .1)
 
 pub place-after-spec : {M : Type 1} → statement M
 place-after-spec =
@@ -79,6 +86,7 @@ place-after-spec =
     enum-known-request-6
     enum-known-request-7
     enum-known-request-8
+    enum-known-request-9
     enum-told
     returns
     returns-2
@@ -88,4 +96,5 @@ place-after-spec =
     returns-6
     returns-7
     returns-8
-    returns-9)
+    returns-9
+    returns-10)

@@ -37,6 +37,9 @@ inventory-request-at-requires c κs = search needs
 list-request-at-requires : tie.Need-list-request-at-requires
 list-request-at-requires c κs = search needs
 
+offsets-request-at-requires : tie.Need-offsets-request-at-requires
+offsets-request-at-requires c κs = search needs
+
 returns-2 : tie.Need-returns-2
 unfolding requestAt
 returns-2 c = c .walk-request-at .ensures ∙ simp (lt-leb _ _ (c .before .before .before .if1 .left), c .before .match .keys1)
@@ -72,6 +75,13 @@ returns-9 c = c .list-request-at .ensures ∙ simp (lt-leb _ _ (c .before .befor
 returns-10 : tie.Need-returns-10
 unfolding requestAt
 returns-10 c =
+    let found = c .before in
+    c .offsets-request-at .ensures
+    ∙ simp (lt-leb _ _ (found .before .before .if1 .left), found .match .keys9)
+
+returns-11 : tie.Need-returns-11
+unfolding requestAt
+returns-11 c =
     let r = c .match .rest in
     simp (
       lt-leb _ _ (c .before .before .if1 .left),
@@ -83,6 +93,7 @@ returns-10 c =
       ne-eqb _ _ (r .0 .0 .0 .0 .0 .1),
       ne-eqb _ _ (r .0 .0 .0 .0 .0 .0 .1),
       ne-eqb _ _ (r .0 .0 .0 .0 .0 .0 .0 .1),
+      ne-eqb _ _ (r .0 .0 .0 .0 .0 .0 .0 .0 .1),
     )
 
 pub request-at-spec : {M : Type 1} → statement M
@@ -99,6 +110,7 @@ request-at-spec =
     signed-request-at-requires
     inventory-request-at-requires
     list-request-at-requires
+    offsets-request-at-requires
     returns-2
     returns-3
     returns-4
@@ -107,4 +119,5 @@ request-at-spec =
     returns-7
     returns-8
     returns-9
-    returns-10)
+    returns-10
+    returns-11)

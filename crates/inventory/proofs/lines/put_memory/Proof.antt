@@ -3,26 +3,22 @@ use Prim.Native.Nat.{ℕ}
 use native.Mathlib.Omega.{arith}
 use native.Mathlib.Nat.{add-zero}
 use borrow.Author.Needs.{needs}
-use types.Run.{OneOf, miss}
-use denote.Enum.Declared.{tagOf}
 use mathlib.Core.Path.{_≡_, refl, sym, ap, subst, _∙_}
-use mathlib.Core.List.{List, [], _∷_, append-nil}
+use mathlib.Core.List.{List, [], append-nil}
 use lib.ListN.{take-append-drop}
 use Rattle.sections.specs.Indicator.{indicatorOf}
 use Rattle.sections.specs.declared.indicator.Indicator.{Indicator}
 use Rattle.sections.specs.declared.indicator.MaybeIndicator.the-variants.{Fields, NoIndicator}
 use Rattle.products.specs.Products.{productOf}
+use Rattle.products.proofs.Rows.{product-by-the-table}
 use Rattle.index.specs.Decoded.{ownOctets, payloadOf}
 use Rattle.entries.specs.Entries.{entryLine, textOf}
 use Rattle.inventory.specs.Inventory.{indicatorIn}
 use Rattle.inventory.specs.Memory.{entryIn}
-use Rattle.inventory.specs.Lines.{putInText, entriesIn, dueEntries, PutText}
-use Rattle.inventory.specs.declared.turn.Due.{Due}
-use Rattle.inventory.specs.declared.turn.Due.the-variants.{NoLine, Line, LastLine}
+use Rattle.inventory.specs.Lines.{putInText, entriesIn, PutText}
 use Rattle.inventory.specs.declared.memory.Memory.{Memory}
 use Rattle.inventory.proofs.lines.put_memory.Statement.{statement}
 use Rattle.inventory.proofs.lines.put_memory.Tie as tie
-use Rattle.inventory.proofs.turn.Due.{the-type}
 
 pub nothing-put : (at : ℕ) (text : List ℕ) → PutText [] at text text at
 unfolding putInText
@@ -48,11 +44,17 @@ as-text : (file : List ℕ) (m : Memory) {written text text′ : List ℕ} {at e
     → PutText written at text text′ end → PutText (textOf (entriesIn file m)) at text text′ end
 as-text file m {text = text} {text′ = text′} {at = at} {end = end} same put = subst (λ (t : List ℕ). PutText t at text text′ end) (sym same) put
 
+at-most : tie.Need-put-entry-requires
+at-most c κs =
+    let paid = c .before .before .before in
+    let own = paid .before .before .before .before .before in
+    own .before .before .before .before .before .before .pre .1
+
 returns : tie.Need-returns
 returns c =
     let asked = c .before .before in
     let own = asked .before in
-    let a = own .before .before .before .before .before .args in
+    let a = own .before .before .before .before .before .before .args in
     as-text (a .file .now) (a .memory)
     (no-entry (a .file .now) (a .memory) (ap indicatorOf (sym (own .own-octets .ensures)) ∙ sym (asked .from-section .ensures) ∙ c .enum-told .given .1))
     (nothing-put (a .at) (a .text .now))
@@ -66,9 +68,12 @@ returns-2 c =
     let known = paid .before .before in
     let asked = known .before .before in
     let own = asked .before in
-    let a = own .before .before .before .before .before .args in
-    let product : decoded .product-of .result ≡ productOf (payloadOf (a .file .now) (a .memory .fourth)) =
-    decoded .product-of .ensures ∙ ap productOf (paid .payload-of .ensures) in
+    let start = own .before .before .before .before .before .before in
+    let a = start .args in
+    let payload = payloadOf (a .file .now) (a .memory .fourth) in
+    let product : decoded .product-by .result ≡ productOf payload =
+    decoded .product-by .ensures
+    ∙ rw (start .pre .0, paid .payload-of .ensures) (product-by-the-table payload) in
     as-text (a .file .now) (a .memory)
     (one-entry (a .file .now) (a .memory) (ap indicatorOf (sym (own .own-octets .ensures)) ∙ sym (asked .from-section .ensures) ∙ known .known .given .1)
     ∙ sym (ap entryLine (made .entry-in .ensures ∙ rw product)))
@@ -86,6 +91,6 @@ put-memory-spec =
     (λ c κs. search needs)
     (λ c κs. search needs)
     (λ c κs. search needs)
-    (λ c κs. c .before .before .before .before .before .before .before .before .before .before .before .before .before .pre)
+    at-most
     (λ c. c .before .before .put-entry .ensures .same-length)
     returns-2)
