@@ -5,10 +5,10 @@ use mathlib.Core.List.{List, [], _∷_}
 use Prim.Native.Nat.{ℕ, _+_, _-_, _≤_}
 use native.Mathlib.Omega.{arith}
 use lib.Dec.{T, leb, ltb, ltb→lt}
+use mir.Facts.{and-yes}
 use borrow.Author.Tests.{le-leb, lt-leb, leb-true, ltb-true, ltb-false}
 use Rattle.octets.specs.Words.{pick}
 use Rattle.products.specs.Ranges.{Range, _to_is_, lookup}
-use Rattle.products.proofs.EachEntry.{first, second}
 
 -- what a table says of the numbers of an interval: one value of them all, or several
 pub data Verdict (A : Type 0) : Type 0 where
@@ -20,7 +20,8 @@ abbrev pub over : {A : Type 0} → A → ℕ → ℕ → List (Range A) → Verd
 over other low high [] = all other
 over other low high ((a to b is value) ∷ more) =
     let later = over other low high more in
-    pick (ltb high a) later (pick (ltb b low) later (pick (leb a low) (pick (leb high b) (all value) mixed) mixed))
+    pick (ltb high a) later
+    (pick (ltb b low) later (pick (leb a low) (pick (leb high b) (all value) mixed) mixed))
 
 -- a choice between one thing and itself
 pick-same : {A : Type 0} (t : Bool) (a : A) → pick t a a ≡ a
@@ -54,14 +55,16 @@ module _ {A : Type 0} (other r : A) (low high n : ℕ) (p : low ≤ n) (q : n �
 pub record Tabled {A : Type 0} (other : A) (t : List (Range A)) (f : ℕ → A) : Type 0 where
   pub same : (n : ℕ) → f n ≡ lookup other n t
 
--- on an interval of one verdict the function has that value; `around`, on an interval without one number inside it
+-- on an interval of one verdict the function has that value; `around`, on an interval without one
+-- number inside it
 module _ {A : Type 0} {other : A} {t : List (Range A)} {f : ℕ → A} (table : Tabled other t f) where
-  pub on : (low high : ℕ) {r : A} {n : ℕ} → over other low high t ≡ all r → low ≤ n → n ≤ high → r ≡ f n
+  pub on : (low high : ℕ) {r : A} {n : ℕ} → over other low high t ≡ all r → low ≤ n → n ≤ high
+      → r ≡ f n
   on low high {r} {n} e p q = sym (table .same n ∙ whole other r low high n p q t e)
 
   pub around :
-      (low k high : ℕ) {r : A} {n : ℕ} → over other low (k - 1) t ≡ all r → over other (k + 1) high t ≡ all r →
-      low ≤ n → (n ≡ k → ⊥) → n ≤ high → r ≡ f n
+      (low k high : ℕ) {r : A} {n : ℕ} → over other low (k - 1) t ≡ all r →
+      over other (k + 1) high t ≡ all r → low ≤ n → (n ≡ k → ⊥) → n ≤ high → r ≡ f n
   around low k high {r} {n} d e p ne q = side (ltb n k) refl
     where
       side : (u : Bool) → ltb n k ≡ u → r ≡ f n
@@ -78,7 +81,7 @@ pub past : {A : Type 0} (other : A) (k n : ℕ) (t : List (Range A)) → T (ende
     → lookup other n t ≡ other
 past other k n [] over behind = refl
 past other k n ((a to b is value) ∷ more) over behind =
-    let before = ltb→lt b k (first (ltb b k) (ended k more) over) in
+    let before = ltb→lt b k (and-yes (ltb b k) (ended k more) over .0) in
     rw (lt-leb n b (omega arith))
     (pick-same (leb a n) (lookup other n more)
-    ∙ past other k n more (second (ltb b k) (ended k more) over) behind)
+    ∙ past other k n more (and-yes (ltb b k) (ended k more) over .1) behind)

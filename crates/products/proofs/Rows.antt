@@ -6,7 +6,8 @@ use mathlib.Core.Path.{_≡_, refl, sym, ap, subst, _∙_}
 use mathlib.Core.Bool.{Bool, true, false, _&&_}
 use mathlib.Core.List.{List}
 use lib.Dec.{T, eqb, eqb→eq, ltb}
-use lib.ListN.{length, getD}
+use lib.ListN.{length, getD, List·getD-eq-default}
+use mir.Facts.{and-yes}
 use borrow.Author.Tests.{ltb-true, ltb-false, eq-eqb}
 use Rattle.octets.specs.Words.{pick}
 use Rattle.products.specs.Templates.{
@@ -31,7 +32,7 @@ use Rattle.products.specs.declared.Supported.{Supported}
 use Rattle.products.specs.declared.Supported.the-variants.{Template, NoTemplate}
 use Rattle.products.specs.declared.templates.Index.{Index}
 use Rattle.products.specs.declared.templates.Index.the-variants.{At, Absent}
-use Rattle.products.proofs.EachEntry.{first, second, every, at-each, inside-it, behind-it}
+use Rattle.products.proofs.EachEntry.{every, at-each, inside-it}
 use Rattle.products.proofs.Ranges.{past}
 
 same : Index → Index → Bool
@@ -69,11 +70,11 @@ in-every-row n inside =
     let process = same (column (r % 256)) (processIndex n) in
     let time = same (column (r / 256 % 256)) (timeIndex n) in
     let surface = same (column (r / 65536)) (surfacesIndex n) in
-    let all = at-each right rows all-right n within in
-    let others = second process (time && surface) all in
-    let p = same-is (column (r % 256)) (processIndex n) (first process (time && surface) all) in
-    let t = same-is (column (r / 256 % 256)) (timeIndex n) (first time surface others) in
-    let s = same-is (column (r / 65536)) (surfacesIndex n) (second time surface others) in
+    let all = and-yes process (time && surface) (at-each right rows all-right n within) in
+    let others = and-yes time surface (all .1) in
+    let p = same-is (column (r % 256)) (processIndex n) (all .0) in
+    let t = same-is (column (r / 256 % 256)) (timeIndex n) (others .0) in
+    let s = same-is (column (r / 65536)) (surfacesIndex n) (others .1) in
     rw (inside-it rows n none 0 within) (cc)
 
 none-above : (n : ℕ) → 1101 < n → offsetsOf n ≡ columns none
@@ -109,7 +110,7 @@ by-the-table n = side (ltb n 1102) refl
     side : (u : Bool) → ltb n 1102 ≡ u → columns (getD rows n none) ≡ offsetsOf n
     side true e = in-every-row n (omega (arith, ltb-true))
     side false e =
-        ap columns (behind-it rows n none (omega (arith, so-many, ltb-false)))
+        ap columns (List·getD-eq-default rows none (omega (arith, so-many, ltb-false)))
         ∙ sym (none-above n (omega (arith, ltb-false)))
 
 -- and a payload says by it what it says by the ranges

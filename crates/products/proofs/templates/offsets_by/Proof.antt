@@ -3,17 +3,17 @@ use Prim.Native.Nat.{ℕ, _/_, _%_, _<_}
 use native.Mathlib.Omega.{arith}
 use mathlib.Core.Path.{_≡_}
 use mathlib.Core.List.{List}
-use lib.ListN.{length, getD}
+use lib.ListN.{length, getD, List·getD-eq-default}
 use borrow.Author.Needs.{needs}
 use Rattle.products.specs.Rows.{none, column, columns, offsetsBy}
 use Rattle.products.specs.declared.templates.Index.{Index}
-use Rattle.products.proofs.EachEntry.{inside-it, behind-it}
+use Rattle.products.proofs.EachEntry.{inside-it}
 use Rattle.products.proofs.templates.offsets_by.Statement.{statement}
 use Rattle.products.proofs.templates.offsets_by.Tie as tie
 
 returns : tie.Need-returns
 unfolding offsetsBy columns column
-returns c = rw (behind-it _ _ none (c .if1 .taken))
+returns c = rw (List·getD-eq-default _ none (c .if1 .taken))
 
 read : (lent : List ℕ) (n : ℕ) (process time surfaces : Index) → n < length lent
     → process ≡ column (getD lent n 0 % 256) → time ≡ column (getD lent n 0 / 256 % 256)
