@@ -1,7 +1,7 @@
 # The library as an archive and as a shared library, and the command over it.
 #
 #   make            builds target/staticlib/libbuttresk.a, which is proved first, the shared library
-#                   build/libbuttresk.so.0 and the command build/buttresk
+#                   build/libbuttresk.so.1 and the command build/buttresk
 #   make run        the same, and shows the list, the index and the fields of a sample file
 #   make test       the same, and runs the command's tests
 #   make check      every check and test that asks for no proof, the command's tests among them; not
@@ -42,7 +42,7 @@ SANITIZE = -fsanitize=address,undefined -fno-sanitize-recover=all
 # The header has the version. The number behind .so is another one: it rises when a program that was
 # linked before would no longer run.
 VERSION = $(shell sed -n 's/^.define BUTTRESK_VERSION *"\(.*\)"$$/\1/p' $(HEADER))
-SHARED = libbuttresk.so.0
+SHARED = libbuttresk.so.1
 
 # The crates that the archive is made of: crates.txt names all of them in one line.
 CRATES = buttresk $(shell sed -n 's/^buttresk: *//p' crates.txt)

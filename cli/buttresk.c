@@ -136,7 +136,10 @@ static enum status do_with_names(const struct verb *verb, const struct options *
     q.asked = (struct asked){.several = names->count > 1 || o->files0 != NULL,
                              .json = (o->given & JSON) != 0,
                              .strict = (o->given & STRICT) != 0,
-                             .force = (o->given & FORCE) != 0};
+                             .force = (o->given & FORCE) != 0,
+                             .reading = (o->given & AS_CRATE) != 0 ? BUTTRESK_AS_CRATE
+                                                                   : BUTTRESK_BY_MANUAL,
+                             .says_reading = (verb->takes & AS_CRATE) != 0};
     switch (verb->way) {
     case COPY:
         return copy_all(&q, names->count, o->jobs, o->files0 != NULL);

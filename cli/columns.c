@@ -100,7 +100,7 @@ static struct row_of_cells columns_of(const struct submessage *s)
         code("number", four->number.known, four->number.value, 1),
         code("process", four->process.known, four->process.value, 1),
         code("time_unit", four->time.known, four->time.unit, 1),
-        code("time", four->time.known, four->time.time, 4),
+        code("time", four->time.known, four->time.time, time_octets(s)),
         code("first_type", surfaces, first->type, 1),
         by_sign("first_factor", surfaces, first->factor, 1),
         by_sign("first_value", surfaces, first->value, 4),
@@ -176,6 +176,7 @@ void print_columns_as_json(const struct submessage *s, const char *file)
 {
     struct row_of_cells row = columns_of(s);
     json_begin("submessage", file);
+    json_reading(s->reading);
     json_number("message", s->message);
     json_number("submessage", s->submessage);
     for (int i = 0; i < COLUMNS; i++) {

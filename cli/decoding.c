@@ -8,6 +8,7 @@ struct decoding {
     const struct source *source;
     const struct tables *tables;
     const uint64_t *line;
+    enum buttresk_reading reading;
     bool inside; /* every section read lies inside the file */
     struct submessage *submessage;
     with_payloads *also;
@@ -47,16 +48,18 @@ static void decode(void *with)
     s->indicator = buttresk_indicator(zero.octets, zero.size);
     s->identification = buttresk_identification(one.octets, one.size);
     s->grid = buttresk_grid_definition(three.octets, three.size);
-    s->product = buttresk_product_definition(four.octets, four.size);
+    s->reading = d->reading;
+    s->product = buttresk_product_definition(d->reading, four.octets, four.size);
     s->representation = buttresk_representation(five.octets, five.size);
     s->bit_map = buttresk_bit_map(six.octets, six.size);
     d->also(s, three, four, d->with);
 }
 
 bool decode_also(struct submessage *s, const struct source *source, const struct tables *tables,
-                 const uint64_t *line, with_payloads *also, void *with)
+                 const uint64_t *line, enum buttresk_reading reading, with_payloads *also,
+                 void *with)
 {
-    struct decoding d = {source, tables, line, true, s, also, with};
+    struct decoding d = {source, tables, line, reading, true, s, also, with};
     const void *fault;
     return guarded(decode, &d, &fault) && d.inside;
 }
@@ -68,7 +71,16 @@ static void nothing_more(const struct submessage *s, struct part three, struct p
 }
 
 bool decode_submessage(struct submessage *s, const struct source *source,
-                       const struct tables *tables, const uint64_t *line)
+                       const struct tables *tables, const uint64_t *line,
+                       enum buttresk_reading reading)
 {
-    return decode_also(s, source, tables, line, nothing_more, NULL);
+    return decode_also(s, source, tables, line, reading, nothing_more, NULL);
+}
+
+/* Code table 4.0: an aerosol at a point in time. By the Manual its time is octets 32 and 33. */
+enum { AEROSOL = 44 };
+
+int time_octets(const struct submessage *s)
+{
+    return s->reading == BUTTRESK_BY_MANUAL && s->product.template_number == AEROSOL ? 2 : 4;
 }

@@ -24,6 +24,7 @@ struct submessage {
     struct buttresk_indicator_fields indicator;
     struct buttresk_identification_fields identification;
     struct buttresk_grid_fields grid;
+    enum buttresk_reading reading; /* of the product */
     struct buttresk_product_fields product;
     struct buttresk_representation_fields representation;
     struct buttresk_bit_map_fields bit_map;
@@ -34,13 +35,18 @@ struct submessage {
 typedef void with_payloads(const struct submessage *s, struct part three, struct part four,
                            void *with);
 
-/* Of a line of the submessage table. Whether its sections could be read: if not, the file changed
-   under it, or its disk fails. */
+/* Of a line of the submessage table, its product by this reading. Whether its sections could be
+   read: if not, the file changed under it, or its disk fails. */
 bool decode_submessage(struct submessage *s, const struct source *source,
-                       const struct tables *tables, const uint64_t *line);
+                       const struct tables *tables, const uint64_t *line,
+                       enum buttresk_reading reading);
 
 /* The same, and `also` is called with what it decoded. */
 bool decode_also(struct submessage *s, const struct source *source, const struct tables *tables,
-                 const uint64_t *line, with_payloads *also, void *with);
+                 const uint64_t *line, enum buttresk_reading reading, with_payloads *also,
+                 void *with);
+
+/* How many octets the forecast time has, by which its top bit and "all ones" are told. */
+int time_octets(const struct submessage *s);
 
 #endif

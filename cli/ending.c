@@ -44,10 +44,19 @@ void json_outcome(struct end end)
     json_number("detail", end.detail);
 }
 
-static void print_ending_as_json(const struct source *source, const struct tables *tables)
+static void begin_end(const char *name, const struct asked *asked)
+{
+    json_begin("end", name);
+    if (asked->says_reading) {
+        json_reading(asked->reading);
+    }
+}
+
+static void print_ending_as_json(const struct source *source, const struct tables *tables,
+                                 const struct asked *asked)
 {
     const struct buttresk_walk_answer *a = &tables->answer;
-    json_begin("end", source->name);
+    begin_end(source->name, asked);
     json_outcome(END_OF(*a));
     json_number("octets", source->size);
     json_number("sections", a->sections);
@@ -75,7 +84,7 @@ bool print_watched(const struct source *source, const struct tables *tables,
 enum status tell_failed(const char *name, const struct asked *asked)
 {
     if (asked->json) {
-        json_begin("end", name);
+        begin_end(name, asked);
         json_null("outcome");
         json_string("error", last_failure());
         json_end();
@@ -91,7 +100,7 @@ static enum status print_and_tell(const struct source *source, const struct tabl
         return tell_failed(source->name, asked);
     }
     if (asked->json) {
-        print_ending_as_json(source, tables);
+        print_ending_as_json(source, tables, asked);
     }
     return output_taken() ? tell_ending(source, tables, asked->strict) : FAILED;
 }

@@ -20,7 +20,8 @@ static bool print_submessages(const struct source *source, const struct tables *
 {
     struct submessage submessage;
     for (uint64_t i = 0; i < tables->answer.submessages && !ferror(stdout); i++) {
-        if (!decode_submessage(&submessage, source, tables, tables_line(tables, i))) {
+        if (!decode_submessage(&submessage, source, tables, tables_line(tables, i),
+                               asked->reading)) {
             return false;
         }
         print_one(source->name, &submessage, asked);

@@ -81,6 +81,11 @@ void json_string(const char *key, const char *text)
     put_string(text);
 }
 
+void json_reading(enum buttresk_reading reading)
+{
+    json_string("reading", reading == BUTTRESK_BY_MANUAL ? "by-manual" : "as-crate");
+}
+
 void json_end(void)
 {
     puts("}");

@@ -5,6 +5,8 @@
 #include <stdbool.h>
 #include <stdint.h>
 
+#include "buttresk.h"
+
 void json_begin(const char *kind, const char *file);
 void json_key(const char *key);
 void json_number(const char *key, uint64_t value);
@@ -15,6 +17,9 @@ void json_null(const char *key);
    surrogate, \udc80 to \udcff: so the string is always valid, two names never become one, and
    Python's os.fsencode has the octets back. */
 void json_string(const char *key, const char *text);
+
+/* Which reading of product templates the object is of. */
+void json_reading(enum buttresk_reading reading);
 
 void json_end(void);
 

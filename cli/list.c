@@ -97,7 +97,7 @@ static struct view view_of(const struct listed *l)
     const struct submessage *s = &l->decoded;
     struct view view = {.numbers = {""}};
     add(&view.cells[WHICH], "%" PRIu64 ".%" PRIu64, s->message, s->submessage);
-    add_valid_time(&view.cells[WHEN], &s->identification, &s->product);
+    add_valid_time(&view.cells[WHEN], s);
     add_what(&view, s);
     add_level(&view.cells[LEVEL], &s->product.surfaces);
     add_member(&view.cells[MEMBER], &l->member);
@@ -125,12 +125,13 @@ static void print_view(struct layout *layout, const struct view *view)
 
 /* Whether every submessage could be read. */
 static bool for_each_submessage(const struct source *source, const struct tables *tables,
-                                struct layout *layout, with_view *act)
+                                enum buttresk_reading reading, struct layout *layout,
+                                with_view *act)
 {
     struct listed listed;
     for (uint64_t i = 0; i < tables->answer.submessages && !ferror(stdout); i++) {
-        if (!decode_also(&listed.decoded, source, tables, tables_line(tables, i), read_undecoded,
-                         &listed)) {
+        if (!decode_also(&listed.decoded, source, tables, tables_line(tables, i), reading,
+                         read_undecoded, &listed)) {
             return false;
         }
         const struct view view = view_of(&listed);
@@ -145,12 +146,11 @@ static bool print_lines(const struct source *source, const struct tables *tables
                         const struct asked *asked)
 {
     struct layout layout = layout_start();
-    (void)asked;
-    if (!for_each_submessage(source, tables, &layout, layout_take)) {
+    if (!for_each_submessage(source, tables, asked->reading, &layout, layout_take)) {
         return false;
     }
     layout_print_head(&layout);
-    return for_each_submessage(source, tables, &layout, print_view);
+    return for_each_submessage(source, tables, asked->reading, &layout, print_view);
 }
 
 static bool print_list(const struct source *source, const struct tables *tables,

@@ -11,9 +11,16 @@ static const struct spelling {
     enum option option;
     bool takes; /* the next word, or what stands behind `=` or, of one letter, right behind it */
 } spellings[] = {
-    {"-h", HELP, false},     {"--help", HELP, false},     {"--version", VERSION, false},
-    {"--json", JSON, false}, {"--strict", STRICT, false}, {"--force", FORCE, false},
-    {"-j", JOBS, true},      {"--jobs", JOBS, true},      {"--files0-from", FILES0_FROM, true},
+    {"-h", HELP, false},
+    {"--help", HELP, false},
+    {"--version", VERSION, false},
+    {"--json", JSON, false},
+    {"--strict", STRICT, false},
+    {"--force", FORCE, false},
+    {"--as-crate", AS_CRATE, false},
+    {"-j", JOBS, true},
+    {"--jobs", JOBS, true},
+    {"--files0-from", FILES0_FROM, true},
 };
 enum { SPELLINGS = sizeof spellings / sizeof spellings[0] };
 

@@ -12,7 +12,8 @@ enum option {
     STRICT = 8,
     FORCE = 16,
     JOBS = 32,
-    FILES0_FROM = 64
+    FILES0_FROM = 64,
+    AS_CRATE = 128
 };
 
 struct options {

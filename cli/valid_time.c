@@ -129,15 +129,19 @@ static bool counts_from(uint8_t significance)
     return significance == 0 || significance == 1 || significance == 3;
 }
 
-/* From here on the top bit is set, which the Manual has for a minus sign (regulation 92.1.5);
-   document 01 reads the time without a sign. Where the two differ no time is told. */
-static const uint32_t signed_from = (uint32_t)1 << 31;
+/* From here on the top bit is set, which the Manual has for a minus sign (regulation 92.1.5); the
+   library reads the time without a sign. Where the two differ no time is told. */
+static uint32_t signed_from(const struct submessage *s)
+{
+    return (uint32_t)1 << (8 * time_octets(s) - 1);
+}
 
 /* Whether the time can be told. */
-static bool moved_on(struct moment *m, const struct buttresk_time_field *time)
+static bool moved_on(struct moment *m, const struct submessage *s)
 {
+    const struct buttresk_time_field *time = &s->product.time;
     const struct unit *unit = unit_of(time->unit);
-    if (!time->known || unit == NULL || time->time >= signed_from) {
+    if (!time->known || unit == NULL || time->time >= signed_from(s)) {
         return false;
     }
     if (unit->months != 0) {
@@ -168,16 +172,16 @@ static void add_numbers(struct words *text, const struct moment *reference,
     }
 }
 
-void add_valid_time(struct words *text, const struct buttresk_identification_fields *identification,
-                    const struct buttresk_product_fields *fields)
+void add_valid_time(struct words *text, const struct submessage *s)
 {
-    const struct moment reference = reference_of(identification);
+    const struct buttresk_product_fields *fields = &s->product;
+    const struct moment reference = reference_of(&s->identification);
     const struct product *product = fields->known ? product_of(fields->template_number) : NULL;
     struct moment valid = reference;
-    if (!identification->known) {
+    if (!s->identification.known) {
         add(text, "-");
-    } else if (product != NULL && counts_from(identification->significance) &&
-               is_moment(&reference) && moved_on(&valid, &fields->time)) {
+    } else if (product != NULL && counts_from(s->identification.significance) &&
+               is_moment(&reference) && moved_on(&valid, s)) {
         add(text, "%s", strcmp(product->time, "start") == 0 ? "from " : "");
         add_moment(text, &valid, true);
     } else {

@@ -2,7 +2,7 @@
 #ifndef VALID_TIME_H
 #define VALID_TIME_H
 
-#include "buttresk.h"
+#include "decoding.h"
 #include "words.h"
 
 /*
@@ -10,7 +10,6 @@
  * Where no such time can be told for certain the two numbers that it would come from are there, as
  * `ref 2026-03-14 06:00Z +7 unit 200`: a day is never made up.
  */
-void add_valid_time(struct words *text, const struct buttresk_identification_fields *identification,
-                    const struct buttresk_product_fields *product);
+void add_valid_time(struct words *text, const struct submessage *s);
 
 #endif

@@ -27,13 +27,17 @@ const struct verb verbs[] = {
      .wants = "a FILE is wanted by ",
      .of_file = index_file},
     {.name = "fields",
-     .synopsis = "[--json] [--strict] FILE..",
+     .synopsis = "[--json] [--strict] [--as-crate] FILE..",
      .does = "a line for every submessage, with its decoded fields",
      .help =
          "One table for all files: columns one tab apart, of several files `file` first. `none`:\n"
-         "there is no such field; `missing`: it is there, and all ones. Times are UTC.\n" OUTSIDE
-             OBJECTS "There `missing` names the fields that are all ones, beside their numbers.\n",
-     .takes = JSON | STRICT | MANY_FILES,
+         "there is no such field; `missing`: it is there, and all ones. Times are UTC.\n"
+         "The time of product template 44 and the process of 47 are read by the WMO Manual,\n"
+         "with --as-crate as by the Rust crate grib 0.20.2; all else is the crate's.\n" OUTSIDE
+             OBJECTS
+         "There `missing` names the fields that are all ones, beside their numbers, and `reading`\n"
+         "is `by-manual` or `as-crate`.\n",
+     .takes = JSON | STRICT | AS_CRATE | MANY_FILES,
      .least = 1,
      .most = INT_MAX,
      .wants = "a FILE is wanted by ",
@@ -53,7 +57,8 @@ const struct verb verbs[] = {
      .synopsis = "FILE..",
      .does = "a short line for every submessage of a clean file, to be sent back corrected",
      .help = "Nine fields with a colon between any two: message, submessage, offset, discipline,\n"
-             "category, number, time unit, time, type of the first surface.\n",
+             "category, number, time unit, time, type of the first surface. Product templates are\n"
+             "read as by `fields`.\n",
      .takes = MANY_FILES,
      .least = 1,
      .most = INT_MAX,

@@ -4,7 +4,8 @@
 _buttresk_options() {
     local files='-j --jobs --files0-from'
     case $1 in
-    index | fields) echo "--json --strict $files -h --help" ;;
+    index) echo "--json --strict $files -h --help" ;;
+    fields) echo "--json --strict --as-crate $files -h --help" ;;
     list) echo "--strict $files -h --help" ;;
     inventory) echo "$files -h --help" ;;
     read-list) echo "--json $files -h --help" ;;

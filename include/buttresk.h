@@ -40,9 +40,9 @@ extern "C" {
 #endif
 
 /* The version, as a text and as numbers. What else has it takes it from here. */
-#define BUTTRESK_VERSION       "0.2.0"
+#define BUTTRESK_VERSION       "0.3.0"
 #define BUTTRESK_VERSION_MAJOR 0
-#define BUTTRESK_VERSION_MINOR 2
+#define BUTTRESK_VERSION_MINOR 3
 #define BUTTRESK_VERSION_PATCH 0
 
 /*
@@ -299,7 +299,8 @@ struct buttresk_store_answer buttresk_write(uint8_t discipline, uint8_t reserved
  *     message and submessage (each from 0), octet offset of section 0, discipline, category,
  *     parameter number, time unit, time, type of the first fixed surface
  * Each is a decimal number without leading zeros; any of the last five is `none` where there is
- * none, and time unit and time are both none or neither. The text has no 0 octet behind it.
+ * none, and time unit and time are both none or neither. Product templates are read by the Manual
+ * (BUTTRESK_BY_MANUAL, below). The text has no 0 octet behind it.
  *
  * Reads `file`; writes `text`, as many octets from its start as the text has, and no other. On a
  * refusal `text` is left as it was. The text of a file without a submessage has no octets, and
@@ -394,7 +395,7 @@ struct buttresk_octet_field {
     uint8_t value;
 };
 
-/* A forecast time, or none. */
+/* A forecast time, or none. It has no sign: a top bit that is set makes a large number. */
 struct buttresk_time_field {
     uint8_t known;
     uint8_t unit; /* Code table 4.4 */
@@ -416,6 +417,24 @@ struct buttresk_surfaces_field {
     struct buttresk_surface second;
 };
 
+/*
+ * The two readings of a product template: where its fields stand, and how many octets its time has.
+ * They differ in two templates, and agree on every other number. Octets count from 1 in section 4.
+ *   44  the time: as the crate octets 32 to 35, of which the last two are the first surface's type
+ *       and scale factor as well; by the Manual octets 32 and 33, so at most 65,535, and there is a
+ *       time where the section ends behind them;
+ *   47  the generating process: as the crate octet 12, which is of the type of aerosol; by the
+ *       Manual octet 25, as in 44 to 46.
+ */
+enum buttresk_reading {
+    /* as the Rust crate grib 0.20.2 has it */
+    BUTTRESK_AS_CRATE = 1,
+
+    /* by the WMO Manual on Codes, volume I.2, in these two; in every other as the crate, also where
+       the Manual has it otherwise, as it has the generating process of 83 and 254 */
+    BUTTRESK_BY_MANUAL = 2
+};
+
 /* Section 4. `known` is of `coordinates` and `template_number`; every product field has its own. */
 struct buttresk_product_fields {
     uint8_t known;
@@ -428,9 +447,13 @@ struct buttresk_product_fields {
     struct buttresk_surfaces_field surfaces;
 };
 
-/* Of a payload; under 4 octets: none. A product field is none as well if the template is not
-   supported, does not hold the field, or if the payload ends too soon. */
-struct buttresk_product_fields buttresk_product_definition(const uint8_t *payload, size_t octets);
+/* Of a payload, by a reading; under 4 octets: none. A product field is none as well if the template
+   is not supported, does not hold the field, or if the payload ends too soon. The reading is one of
+   `enum buttresk_reading`. Any other number answers none for everything, `coordinates` and
+   `template_number` too, and never by some other reading; it is taken in 64 bits, so that no larger
+   number of the caller's is cut down to a 1 or a 2. */
+struct buttresk_product_fields buttresk_product_definition(uint64_t reading, const uint8_t *payload,
+                                                           size_t octets);
 
 /* Section 5. */
 struct buttresk_representation_fields {

@@ -203,6 +203,11 @@ KINDS = {"probability": "Probability forecasts", "percentile": "Percentile forec
          "cluster": "based on a cluster", "error": "forecast error", "category": "Categorical"}
 
 
+# A template that includes one of these has a forecast time; the second is that of 44, which has two
+# octets.
+FORECAST_TIMES = {"template.4.forecast_time.def", "template.4.forecast_time_44.def"}
+
+
 def titles_of_templates(folder, version):
     text = (master_tables(folder, version) / "4.0.table").read_text()
     return {int(code): title for code, title in re.findall(r"^(\d+) \S+ (.*\S)", text, re.M)}
@@ -224,7 +229,7 @@ def check_products(folder):
         else:
             fault("products:", template, time, kind, "where eccodes has", said_time, said_kind)
     for template in sorted(set(titles) - {row[0] for row in rows}):
-        if "template.4.forecast_time.def" in keys_of_template(folder, f"template.4.{template}.def"):
+        if FORECAST_TIMES & keys_of_template(folder, f"template.4.{template}.def"):
             fault("products: no row for", template)
     tell("products", len(rows), agree, unjudged)
 

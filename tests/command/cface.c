@@ -429,37 +429,217 @@ static void fields(void)
     EXPECT(buttresk_bit_map(a.octets + 76, 0).known == 0);
 }
 
-/* Section 4: template 0 has a product field in each of its places, as the Manual lays them out. */
-static void products(void)
+/* --- Section 4, by both readings --- */
+
+enum { READINGS = 2 };
+static const uint64_t readings[READINGS] = {BUTTRESK_AS_CRATE, BUTTRESK_BY_MANUAL};
+
+static int is_octet(struct buttresk_octet_field f, uint8_t value)
 {
-    const uint8_t payload[29] = {0, 3, 0,   0,    1,    2, 4, 0, 0,   0, 0,    0,    11,   0,   0,
-                                 1, 2, 103, 0x81, 0x80, 0, 0, 5, 255, 2, 0x7f, 0xff, 0xff, 0xff};
-    struct buttresk_product_fields p = buttresk_product_definition(payload, sizeof payload);
+    return f.known == 1 && f.value == value;
+}
+
+static int is_time(struct buttresk_time_field f, uint8_t unit, uint32_t time)
+{
+    return f.known == 1 && f.unit == unit && f.time == time;
+}
+
+static int is_surface(struct buttresk_surface s, uint8_t type, int32_t factor, int32_t value)
+{
+    return s.type == type && s.factor == factor && s.value == value;
+}
+
+static int no_octet(struct buttresk_octet_field f)
+{
+    return f.known == 0 && f.value == 0;
+}
+
+static int no_time(struct buttresk_time_field f)
+{
+    return f.known == 0 && f.unit == 0 && f.time == 0;
+}
+
+static int no_surfaces(struct buttresk_surfaces_field f)
+{
+    return f.known == 0 && is_surface(f.first, 0, 0, 0) && is_surface(f.second, 0, 0, 0);
+}
+
+static int no_product(struct buttresk_product_fields p)
+{
+    return no_octet(p.category) && no_octet(p.number) && no_octet(p.process) && no_time(p.time) &&
+           no_surfaces(p.surfaces);
+}
+
+static int nothing(struct buttresk_product_fields p)
+{
+    return p.known == 0 && p.coordinates == 0 && p.template_number == 0 && no_product(p);
+}
+
+/* Template 0 has a product field in each of its places, as the Manual lays them out. */
+static const uint8_t whole[29] = {0, 3, 0,   0,    1,    2, 4, 0, 0,   0, 0,    0,    11,   0,   0,
+                                  1, 2, 103, 0x81, 0x80, 0, 0, 5, 255, 2, 0x7f, 0xff, 0xff, 0xff};
+
+/* What both readings answer alike. */
+static void products(uint64_t reading)
+{
+    struct buttresk_product_fields p = buttresk_product_definition(reading, whole, sizeof whole);
     EXPECT(p.known == 1 && p.coordinates == 3 && p.template_number == 0);
-    EXPECT(p.category.known == 1 && p.category.value == 1 && p.number.known == 1 &&
-           p.number.value == 2);
-    EXPECT(p.process.known == 1 && p.process.value == 4);
-    EXPECT(p.time.known == 1 && p.time.unit == 11 && p.time.time == 0x0102);
-    EXPECT(p.surfaces.known == 1 && p.surfaces.first.type == 103 && p.surfaces.first.factor == -1 &&
-           p.surfaces.first.value == -5);
-    EXPECT(p.surfaces.second.type == 255 && p.surfaces.second.factor == 2 &&
-           p.surfaces.second.value == 2147483647);
+    EXPECT(is_octet(p.category, 1) && is_octet(p.number, 2));
+    EXPECT(is_octet(p.process, 4));
+    EXPECT(is_time(p.time, 11, 0x0102));
+    EXPECT(p.surfaces.known == 1 && is_surface(p.surfaces.first, 103, -1, -5));
+    EXPECT(is_surface(p.surfaces.second, 255, 2, 2147483647));
 
     /* an octet less: both surfaces or none; five octets: a category and no number */
-    p = buttresk_product_definition(payload, 28);
-    EXPECT(p.time.known == 1 && p.surfaces.known == 0);
-    p = buttresk_product_definition(payload, 5);
-    EXPECT(p.known == 1 && p.category.known == 1 && p.number.known == 0 && p.process.known == 0 &&
-           p.time.known == 0);
-    p = buttresk_product_definition(payload, 3);
-    EXPECT(p.known == 0 && p.category.known == 0 && p.number.known == 0 && p.process.known == 0 &&
-           p.time.known == 0);
-    EXPECT(p.surfaces.known == 0);
+    p = buttresk_product_definition(reading, whole, 28);
+    EXPECT(p.time.known == 1 && no_surfaces(p.surfaces));
+    p = buttresk_product_definition(reading, whole, 5);
+    EXPECT(p.known == 1 && is_octet(p.category, 1) && no_octet(p.number) && no_octet(p.process) &&
+           no_time(p.time));
+    EXPECT(nothing(buttresk_product_definition(reading, whole, 3)));
 
     /* an unsupported template */
     const uint8_t other[6] = {0, 3, 0, 16, 1, 2};
-    p = buttresk_product_definition(other, sizeof other);
-    EXPECT(p.known == 1 && p.template_number == 16 && p.category.known == 0 && p.number.known == 0);
+    p = buttresk_product_definition(reading, other, sizeof other);
+    EXPECT(p.known == 1 && p.coordinates == 3 && p.template_number == 16 && no_product(p));
+
+    /* 83 and 254 stay as the crate: the process is at index 2 */
+    const uint8_t stays[2][7] = {{0, 0, 0, 83, 0, 0, 2}, {0, 0, 0, 254, 0, 0, 2}};
+    EXPECT(is_octet(buttresk_product_definition(reading, stays[0], 7).process, 2));
+    EXPECT(is_octet(buttresk_product_definition(reading, stays[1], 7).process, 2));
+}
+
+/* Template 44: 21 octets of zero, unit 1, two octets of time, and the surfaces. */
+static const uint8_t aerosol[40] = {0, 0, 0, 44, [25] = 1, 0, 6, 5, 0x82, 0,
+                                    0, 0, 1, 7,  0,        0, 0, 0, 2};
+
+static int has_aerosol_surfaces(struct buttresk_product_fields p)
+{
+    return p.surfaces.known == 1 && is_surface(p.surfaces.first, 5, -2, 1) &&
+           is_surface(p.surfaces.second, 7, 0, 2);
+}
+
+/* As the crate the time goes on into the first surface: 0x00060582. */
+static void times_of_44(void)
+{
+    struct buttresk_product_fields p = buttresk_product_definition(BUTTRESK_AS_CRATE, aerosol, 40);
+    EXPECT(p.known == 1 && p.template_number == 44 && is_octet(p.process, 0));
+    EXPECT(is_time(p.time, 1, 394626) && has_aerosol_surfaces(p));
+    p = buttresk_product_definition(BUTTRESK_BY_MANUAL, aerosol, 40);
+    EXPECT(p.known == 1 && p.template_number == 44 && is_octet(p.process, 0));
+    EXPECT(is_time(p.time, 1, 6) && has_aerosol_surfaces(p));
+
+    /* a payload that ends behind octet 35 of its section, the time's last as the crate */
+    EXPECT(is_time(buttresk_product_definition(BUTTRESK_AS_CRATE, aerosol, 30).time, 1, 394626));
+    EXPECT(no_time(buttresk_product_definition(BUTTRESK_AS_CRATE, aerosol, 29).time));
+    EXPECT(is_time(buttresk_product_definition(BUTTRESK_BY_MANUAL, aerosol, 29).time, 1, 6));
+
+    /* behind octet 33, the time's last by the Manual */
+    p = buttresk_product_definition(BUTTRESK_AS_CRATE, aerosol, 28);
+    EXPECT(no_time(p.time) && no_surfaces(p.surfaces) && is_octet(p.process, 0));
+    p = buttresk_product_definition(BUTTRESK_BY_MANUAL, aerosol, 28);
+    EXPECT(is_time(p.time, 1, 6) && no_surfaces(p.surfaces) && is_octet(p.process, 0));
+
+    /* and before it */
+    for (int i = 0; i < READINGS; i++) {
+        p = buttresk_product_definition(readings[i], aerosol, 27);
+        EXPECT(no_time(p.time) && no_surfaces(p.surfaces) && is_octet(p.process, 0));
+    }
+}
+
+/* Two octets have no sign, and all ones is a number. */
+static void large_times_of_44(void)
+{
+    static const struct {
+        uint8_t high, low;
+        uint32_t by_manual, as_crate;
+    } cases[] = {
+        {0x7f, 0xff, 32767, 2147419522},
+        {0x80, 0x00, 32768, 2147485058},
+        {0xff, 0xfe, 65534, 4294837634},
+        {0xff, 0xff, 65535, 4294903170},
+    };
+    uint8_t payload[sizeof aerosol];
+    memcpy(payload, aerosol, sizeof aerosol);
+    for (size_t i = 0; i < sizeof cases / sizeof cases[0]; i++) {
+        payload[26] = cases[i].high;
+        payload[27] = cases[i].low;
+        struct buttresk_product_fields p =
+            buttresk_product_definition(BUTTRESK_BY_MANUAL, payload, sizeof payload);
+        EXPECT(is_time(p.time, 1, cases[i].by_manual) && has_aerosol_surfaces(p));
+        p = buttresk_product_definition(BUTTRESK_AS_CRATE, payload, sizeof payload);
+        EXPECT(is_time(p.time, 1, cases[i].as_crate) && has_aerosol_surfaces(p));
+    }
+}
+
+static void processes_of_47(void)
+{
+    const uint8_t payload[20] = {0, 0, 0, 47, 0, 0, 9, [19] = 4};
+    EXPECT(is_octet(buttresk_product_definition(BUTTRESK_AS_CRATE, payload, 20).process, 9));
+    EXPECT(is_octet(buttresk_product_definition(BUTTRESK_BY_MANUAL, payload, 20).process, 4));
+    EXPECT(is_octet(buttresk_product_definition(BUTTRESK_AS_CRATE, payload, 19).process, 9));
+    EXPECT(no_octet(buttresk_product_definition(BUTTRESK_BY_MANUAL, payload, 19).process));
+    const uint8_t seven[7] = {0, 0, 0, 47, 0, 0, 2};
+    EXPECT(is_octet(buttresk_product_definition(BUTTRESK_AS_CRATE, seven, 7).process, 2));
+    EXPECT(no_octet(buttresk_product_definition(BUTTRESK_BY_MANUAL, seven, 7).process));
+}
+
+/* 45 to 47 have the same start as 44, and a time of four octets by both readings. */
+static void neighbours_of_44(void)
+{
+    uint8_t payload[42] = {0, 0,    0, 0, 20, 1, 9, [19] = 4, [25] = 1, 0, 6, 5, 0x82,
+                           5, 0x82, 0, 0, 0,  1, 7, 0,        0,        0, 0, 2};
+    for (uint8_t number = 45; number <= 47; number++) {
+        payload[3] = number;
+        for (int i = 0; i < READINGS; i++) {
+            struct buttresk_product_fields p =
+                buttresk_product_definition(readings[i], payload, sizeof payload);
+            EXPECT(p.known == 1 && p.template_number == number);
+            EXPECT(is_octet(p.category, 20) && is_octet(p.number, 1));
+            EXPECT(is_time(p.time, 1, 394626) && has_aerosol_surfaces(p));
+            EXPECT(is_octet(p.process, number == 47 && readings[i] == BUTTRESK_AS_CRATE ? 9 : 4));
+            EXPECT(no_time(buttresk_product_definition(readings[i], payload, 29).time));
+        }
+    }
+}
+
+/* Numbers that are no reading; some would be 1 or 2 in 8, 16 or 32 bits. */
+static void no_readings(void)
+{
+    static const uint64_t numbers[] = {0,     3,           257,         258,       65537,
+                                       65538, 0x100000001, 0x100000002, UINT64_MAX};
+    for (size_t i = 0; i < sizeof numbers / sizeof numbers[0]; i++) {
+        EXPECT(nothing(buttresk_product_definition(numbers[i], whole, sizeof whole)));
+        EXPECT(nothing(buttresk_product_definition(numbers[i], aerosol, sizeof aerosol)));
+    }
+}
+
+/* The inventory reads by the Manual. */
+static void inventory_of_44(void)
+{
+    static const char line[] = "0:0:0:10:0:0:1:6:5\n";
+    uint8_t text[40];
+    struct file f = {.size = 0}, a = sample_a();
+    add_start(&f, 122);
+    add(&f, a.octets + 16, 35);
+    add_section(&f, 4, sizeof aerosol);
+    memcpy(f.octets + f.size - sizeof aerosol, aerosol, sizeof aerosol);
+    add(&f, a.octets + 60, 26);
+    struct buttresk_store_answer r = buttresk_inventory(f.octets, f.size, text, sizeof text);
+    EXPECT(f.size == 122 && stored(r, BUTTRESK_DONE, 0, 0, 0, 19) && memcmp(text, line, 19) == 0);
+}
+
+static void products_by_both_readings(void)
+{
+    EXPECT(BUTTRESK_AS_CRATE == 1 && BUTTRESK_BY_MANUAL == 2);
+    products(BUTTRESK_AS_CRATE);
+    products(BUTTRESK_BY_MANUAL);
+    times_of_44();
+    large_times_of_44();
+    processes_of_47();
+    neighbours_of_44();
+    no_readings();
+    inventory_of_44();
 }
 
 /* Every function with null for all that it is lent, and a count of 0. A pointer that is followed
@@ -478,9 +658,9 @@ static void nulls(void)
     EXPECT(buttresk_indicator(NULL, 0).known == 0 && buttresk_identification(NULL, 0).known == 0 &&
            buttresk_grid_definition(NULL, 0).known == 0 &&
            buttresk_representation(NULL, 0).known == 0 && buttresk_bit_map(NULL, 0).known == 0);
-    struct buttresk_product_fields p = buttresk_product_definition(NULL, 0);
-    EXPECT(p.known == 0 && p.category.known == 0 && p.number.known == 0 && p.process.known == 0 &&
-           p.time.known == 0 && p.surfaces.known == 0);
+    EXPECT(nothing(buttresk_product_definition(BUTTRESK_AS_CRATE, NULL, 0)));
+    EXPECT(nothing(buttresk_product_definition(BUTTRESK_BY_MANUAL, NULL, 0)));
+    EXPECT(nothing(buttresk_product_definition(0, NULL, 0)));
 }
 
 /* Each lent memory alone is null, and the call has work to do with the others. */
@@ -594,7 +774,7 @@ int main(void)
     inventories();
     lists();
     fields();
-    products();
+    products_by_both_readings();
     nulls();
     nulls_beside_memory();
     nulls_of_the_writer();

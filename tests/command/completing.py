@@ -15,7 +15,8 @@ MAN_PAGE = ROOT / "docs" / "buttresk.1"
 
 ALWAYS = {"-h", "--help"}
 SEVERAL = ALWAYS | {"-j", "--jobs", "--files0-from"}
-OPTIONS = {"index": SEVERAL | {"--json", "--strict"}, "fields": SEVERAL | {"--json", "--strict"},
+OPTIONS = {"index": SEVERAL | {"--json", "--strict"},
+           "fields": SEVERAL | {"--json", "--strict", "--as-crate"},
            "list": SEVERAL | {"--strict"}, "inventory": SEVERAL, "read-list": SEVERAL | {"--json"},
            "copy": SEVERAL | {"--force"}, "verify": ALWAYS, "leaks": ALWAYS}
 BEFORE_ANY = ALWAYS | {"--version"}

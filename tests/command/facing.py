@@ -97,7 +97,7 @@ def program_over_shared_library(at, prefix, words):
         what = f"{source.name} over the shared library"
         if build(what, source, program, *words, f"-Wl,-rpath,{prefix}/lib"):
             needed = call(tool("readelf"), "-d", program).stdout
-            check(f"{what} needs it by its soname", "[libbuttresk.so.0]" in needed, needed)
+            check(f"{what} needs it by its soname", "[libbuttresk.so.1]" in needed, needed)
             if shared_library_can_run():
                 done = call(*Command.emulator, *where, program)
                 check(f"{what} runs", done.returncode == 0 and done.stdout.endswith(expected), done)
@@ -136,12 +136,12 @@ def libraries_have_what_is_declared(prefix):
                     "product_definition", "publish", "read_list", "representation", "walk",
                     "write")])
     check_equal("the shared library exports them and nothing else",
-                defined("-D", lib / "libbuttresk.so.0"), declared())
+                defined("-D", lib / "libbuttresk.so.1"), declared())
     check_equal("and so does the archive", defined("-g", lib / "libbuttresk.a"), declared())
     check_equal("libbuttresk.so leads to it", os.readlink(lib / "libbuttresk.so"),
-                "libbuttresk.so.0")
-    dynamic = call(tool("readelf"), "-d", lib / "libbuttresk.so.0").stdout
-    check("its soname is libbuttresk.so.0", "soname: [libbuttresk.so.0]" in dynamic, dynamic)
+                "libbuttresk.so.1")
+    dynamic = call(tool("readelf"), "-d", lib / "libbuttresk.so.1").stdout
+    check("its soname is libbuttresk.so.1", "soname: [libbuttresk.so.1]" in dynamic, dynamic)
     check("none of its code is patched when it is loaded", "TEXTREL" not in dynamic, dynamic)
 
 

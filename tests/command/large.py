@@ -69,11 +69,11 @@ def of_file_in_memory(process, path):
     return octets
 
 
-def most_in_memory(process):
-    """The most octets that the process ever had in memory, by now. What wait4 tells would be the
-    tests' own, from before the exec."""
+def told_by_system(process, key):
+    """Octets of memory, by a line of the process' status; 0 if it has ended. What wait4 tells would
+    be the tests' own, from before the exec."""
     try:
-        found = re.search(r"^VmHWM:\s*(\d+) kB",
+        found = re.search(rf"^{key}:\s*(\d+) kB",
                           Path(f"/proc/{process.pid}/status").read_text(), re.MULTILINE)
     except OSError:
         return 0
@@ -87,7 +87,7 @@ def run_measured(*arguments):
     with tempfile.TemporaryFile() as output:
         process = start(*arguments, stdout=output)
         while process.poll() is None:
-            touched = max(touched, most_in_memory(process))
+            touched = max(touched, told_by_system(process, "VmHWM"))
             mapped = max(mapped, of_file_in_memory(process, path))
             time.sleep(0.001)
         output.seek(0)
@@ -167,17 +167,31 @@ def larger_than_memory(at):
           and done.stderr == b"", done)
 
 
+def run_without_maps(*arguments):
+    """The command's end, and the most memory that it had at once beside the maps of files, by
+    looking all the time. How much of a file is in memory depends on what runs the command: an
+    emulator does not hand pages back."""
+    most = 0
+    with tempfile.TemporaryFile() as output:
+        process = start(*arguments, stdout=output)
+        while process.poll() is None:
+            most = max(most, told_by_system(process, "RssAnon"))
+            time.sleep(0.001)
+    done = finish(process)
+    return done.returncode, done.stderr, most
+
+
 def tables_take_memory(at):
     """What README and the man page say of the worst file: 216 octets of tables for each submessage
     of 31 octets, seven times the file's length. It is no file of which memory does not grow."""
     count = 600_000
     path = write(at / "tiny", message(least(1, 3) + least(4, 5, 6, 7) * count + END))
     zeros = write(at / "zeros", bytes(path.stat().st_size))
-    status, _, errors, touched, _ = run_measured("index", path)
-    own = run_measured("index", zeros)[3]
-    times = (touched - own) / path.stat().st_size
+    status, errors, most = run_without_maps("index", path)
+    own = run_without_maps("index", zeros)[2]
+    times = (most - own) / path.stat().st_size
     check(f"tables of {count} least submessages take about seven times the file: {times:.1f}",
-          (status, errors) == (0, b"") and 6 < times < 8, (status, errors, touched, own))
+          (status, errors) == (0, b"") and 6 < times < 8, (status, errors, most, own))
     for page in ("README.md", "docs/buttresk.1"):
         text = " ".join((ROOT / page).read_text().split())
         check(f"{page} says so", "seven times" in text and "memory does not grow" not in text)

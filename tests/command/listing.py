@@ -9,6 +9,7 @@ from pathlib import Path
 import inventory_by_02
 import inventory_files
 import walk_files
+from aerosols import READ, READ_COLUMNS, with_product
 from shared import (ECCODES_SAMPLES, SAMPLES, check, check_ended, check_equal, folder, run, skip,
                     tells, write)
 
@@ -38,6 +39,17 @@ def samples_by_hand():
                 + f"file {sample('least')}\n".encode() + LEAST)
     check_ended("several files: each clean one behind its name",
                 run("inventory", sample("sea"), sample("cut"), sample("least")), 1, CUT, expected)
+
+
+def reads_by_the_manual(at):
+    """Time unit, time and first surface's type, the last three fields, by the hand's answers."""
+    file = b"".join(with_product(payload) for _, payload, *_ in READ)
+    done = run("inventory", write(at / "readings", file))
+    found = [line.split(":")[6:] for line in done.stdout.decode().splitlines()]
+    expected = [["none" if value is None else str(value)
+                 for column, value in zip(READ_COLUMNS, by_manual) if column != "process"]
+                for _, _, by_manual, *_ in READ]
+    check_equal("inventory reads product templates by the Manual", found, expected)
 
 
 def end_of(path, octets, entries, outcome=0, name="done", detail=0):
@@ -168,6 +180,7 @@ def everything():
     samples_by_hand()
     with folder() as name:
         at = Path(name)
+        reads_by_the_manual(at)
         lists_by_hand(at)
         inventories_by_02(at)
         lists_by_02(at)

@@ -33,7 +33,7 @@ def make(*words):
 # --- make install --------------------------------------------------------------------------------
 
 INSTALLED = {"bin/buttresk": 0o755, "include/buttresk.h": 0o644, "lib/libbuttresk.a": 0o644,
-             "lib/libbuttresk.so": 0o644, "lib/libbuttresk.so.0": 0o644,
+             "lib/libbuttresk.so": 0o644, "lib/libbuttresk.so.1": 0o644,
              "lib/pkgconfig/buttresk.pc": 0o644,
              "share/bash-completion/completions/buttresk": 0o644,
              "share/man/man1/buttresk.1": 0o644, "share/zsh/site-functions/_buttresk": 0o644}

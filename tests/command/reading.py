@@ -15,6 +15,9 @@ import copy_files
 import reference
 import replay_lists
 import walk_files
+from aerosols import READ, READ_COLUMNS, with_product
+from fields_by_01 import fields_by_01
+from fields_by_02 import fields_by_manual
 from shared import (ECCODES_SAMPLES, SAMPLES, check, check_ended, check_equal, finish, folder,
                     missing, outside_of, outside_words, run, skip, start, tells, write)
 from walk_files import A, END, message, section
@@ -92,15 +95,25 @@ BY_HAND = [("sea", SEA_INDEX, SEA_FIELDS, 0),
            ("cut", CUT_INDEX, SEA_FIELDS[:2], 1)]
 
 
-def cells(line):
+def missing_columns(words, reading):
+    """Of a row of raw values the columns that are all ones. By the Manual template 44's time has
+    two octets, any other four."""
+    row = dict(zip(COLUMNS, words))
+    two_octets = reading == "by-manual" and row["product_template"] == "44"
+    all_ones = {**ALL_ONES, "time": "65535"} if two_octets else ALL_ONES
+    return [column for column in COLUMNS if all_ones.get(column) == row[column]]
+
+
+def cells(line, reading):
     """A row of raw values as the table has it: `missing` for all ones."""
-    return ["missing" if ALL_ONES.get(column) == word else word
+    all_ones = missing_columns(line.split(), reading)
+    return ["missing" if column in all_ones else word
             for column, word in zip(COLUMNS, line.split())]
 
 
-def table(lines, path=None):
+def table(lines, path=None, reading="by-manual"):
     """The table of one file; of several the lines alone, behind the file's name."""
-    rows = ["\t".join(([str(path)] if path else []) + cells(line)) for line in lines]
+    rows = ["\t".join(([str(path)] if path else []) + cells(line, reading)) for line in lines]
     return "".join(line + "\n" for line in ([] if path else [HEAD]) + rows)
 
 
@@ -154,9 +167,14 @@ def section_of(file, done, line, number):
     return file[row.offset + (0 if number == 0 else 5):row.offset + row.length]
 
 
-def fields_of_line(file, done, line):
+# What JSON calls the readings, the options that ask for them, and who reads so.
+READINGS = {"by-manual": ([], fields_by_manual),
+            "as-crate": (["--as-crate"], fields_by_01)}
+
+
+def fields_of_line(file, done, line, read):
     """A row of the table as values, None for none, in the order of COLUMNS."""
-    found = {number: replay_lists.fields_by_01(number, section_of(file, done, line, number))
+    found = {number: read(number, section_of(file, done, line, number))
              for number in (0, 1, 3, 4, 5, 6)}
     discipline, total = found[0]
     centre, subcentre, _, _, _, *time = found[1][:11]
@@ -166,26 +184,25 @@ def fields_of_line(file, done, line):
             *found[4][1:], found[3][1], found[3][0], found[5][1], found[6][0]]
 
 
-def fields_of(file):
-    done = reference.walk(file)
-    return [fields_of_line(file, done, line) for line in done.lines]
+def fields_of(file, reading):
+    done, (_, read) = reference.walk(file), READINGS[reading]
+    return [fields_of_line(file, done, line, read) for line in done.lines]
 
 
-def as_table(rows, path=None):
+def as_table(rows, path=None, reading="by-manual"):
     return table([" ".join("none" if value is None else str(value) for value in row)
-                  for row in rows], path)
+                  for row in rows], path, reading)
 
 
-def as_objects(name, rows):
+def as_objects(name, rows, reading):
     """What --json prints of submessages, as pairs: the order of keys counts. The raw numbers stand
     beside the names of those that are all ones."""
     for row in rows:
         number, own = row[0].split(".")
-        missing_ones = [column for column, value in zip(COLUMNS, row)
-                        if ALL_ONES.get(column) == str(value)]
-        yield [("kind", "submessage"), ("file", name),
+        yield [("kind", "submessage"), ("file", name), ("reading", reading),
                ("message", int(number)), ("submessage", int(own)),
-               *zip(COLUMNS[1:], row[1:]), ("missing", missing_ones)]
+               *zip(COLUMNS[1:], row[1:]),
+               ("missing", missing_columns([str(value) for value in row], reading))]
 
 
 OUTCOMES = {0: "done", 2: "cut", 3: "other edition", 4: "total under 16", 5: "no end mark",
@@ -193,10 +210,10 @@ OUTCOMES = {0: "done", 2: "cut", 3: "other edition", 4: "total under 16", 5: "no
             9: "longer than the rest", 10: "input over", 11: "misplaced", 12: "no grid"}
 
 
-def end_object(name, file):
-    """The object at a file's end, but for the meaning in words."""
+def end_object(name, file, reading=None):
+    """The object at a file's end, but for the meaning in words; `fields` alone has a reading."""
     done = reference.walk(file)
-    return [("kind", "end"), ("file", name),
+    return [("kind", "end"), ("file", name), *([("reading", reading)] if reading else []),
             ("outcome", done.outcome), ("name", OUTCOMES[done.outcome]),
             ("place", done.place), ("offset", done.offset), ("detail", done.detail),
             ("octets", len(file)), ("sections", len(done.rows)),
@@ -231,13 +248,14 @@ def objects_of(output):
 
 
 def product_files():
-    """A message for each kind of product template, with a whole section 4 and with one that ends in
-    the middle of it."""
+    """A message for each kind of product template, with a whole section 4 and with ones that end in
+    the middle of it: at 25 octets of a template, 44 has a time by the Manual and none as the crate,
+    and at 15 octets 47 a generating process as the crate and none by the Manual."""
     ends = {end for runs in (replay_lists.SUPPORTED, replay_lists.PROCESS,
                              replay_lists.TIME, replay_lists.SURFACES)
             for first, last, *_ in runs for end in (first - 1, first, last, last + 1)}
     for template in sorted(ends & set(range(65536))) + [65535]:
-        for size in (60, 25, 1):
+        for size in (60, 25, 15, 1):
             four = bytes(2) + template.to_bytes(2, "big") + copy_files.loaded(size, template % 7)
             five, six = section(5, copy_files.loaded(11, 3)), section(6, copy_files.loaded(4, 9))
             yield message(copy_files.full(1) + copy_files.full(3) + section(4, four)
@@ -255,11 +273,16 @@ def extreme_files():
 
 
 def as_the_reference(what, files, at):
-    """All files in one run each of index, fields and fields --json."""
+    """All files in one run each of index, fields and fields --json, by both readings."""
     paths = [write(at / f"{what}-{i}", file) for i, file in enumerate(files)]
+    index_as_the_reference(what, files, paths)
+    for reading in READINGS:
+        fields_as_the_reference(what, files, paths, reading)
+
+
+def index_as_the_reference(what, files, paths):
     head = "file {}\n" if len(paths) > 1 else ""
     status = max(1 if reference.walk(file).outcome else 0 for file in files)
-    tables = {path: fields_of(file) for path, file in zip(paths, files)}
     done = run("index", *paths)
     expected = "".join(head.format(path) + index_of(file) for path, file in zip(paths, files))
     check(f"index of {len(files)} files as reference.py says: {what}",
@@ -267,23 +290,30 @@ def as_the_reference(what, files, at):
           first_difference(done.stdout.decode(), expected))
     check(f"and standard error, with where a re-request starts behind each refusal 2: {what}",
           told_of(done.stderr, paths, files), done.stderr[:1500])
-    done = run("fields", *paths)
+    check_objects(f"index --json of {len(files)} files: {what}",
+                  run("index", "--json", *paths), status,
+                  [one for path, file in zip(paths, files)
+                   for one in index_objects(str(path), file)])
+
+
+def fields_as_the_reference(what, files, paths, reading):
+    options, _ = READINGS[reading]
+    status = max(1 if reference.walk(file).outcome else 0 for file in files)
+    tables = {path: fields_of(file, reading) for path, file in zip(paths, files)}
+    done = run("fields", *options, *paths)
     expected = f"file\t{HEAD}\n" if len(paths) > 1 else ""
-    expected += "".join(as_table(rows, path if len(paths) > 1 else None)
+    expected += "".join(as_table(rows, path if len(paths) > 1 else None, reading)
                         for path, rows in tables.items())
-    check(f"fields of {len(files)} files as document 01's reader says: {what}",
+    check(f"fields of {len(files)} files as the documents' reader says, {reading}: {what}",
           (done.returncode, done.stdout) == (status, expected.encode()),
           first_difference(done.stdout.decode(), expected))
     check(f"and standard error, as of index: {what}",
           told_of(done.stderr, paths, files), done.stderr[:1500])
-    pairs = list(zip(paths, files))
-    check_objects(f"fields --json of {len(files)} files: {what}",
-                  run("fields", "--json", *paths), status,
-                  [one for path, file in pairs
-                   for one in [*as_objects(str(path), tables[path]), end_object(str(path), file)]])
-    check_objects(f"index --json of {len(files)} files: {what}",
-                  run("index", "--json", *paths), status,
-                  [one for path, file in pairs for one in index_objects(str(path), file)])
+    check_objects(f"fields --json of {len(files)} files, {reading}: {what}",
+                  run("fields", "--json", *options, *paths), status,
+                  [one for path, file in zip(paths, files)
+                   for one in [*as_objects(str(path), tables[path], reading),
+                               end_object(str(path), file, reading)]])
 
 
 def check_objects(what, done, status, expected):
@@ -345,6 +375,28 @@ def refusals_are_told(at):
         check(f"refusal {outcome} is told in words and numbers, in one line",
               done.returncode == 1 and said.encode() in first and numbers.encode() in first
               and more.count(b"\n") == (outcome == 2) + bool(outside_words("", file)), done)
+
+
+# --- The two readings of product templates -------------------------------------------------------
+
+def readings_by_hand(at):
+    path = write(at / "readings", b"".join(with_product(payload) for _, payload, *_ in READ))
+    for number, (reading, (options, _)) in enumerate(READINGS.items()):
+        table_of = run("fields", *options, path).stdout.decode().splitlines()
+        rows = [dict(zip(COLUMNS, line.split("\t"))) for line in table_of[1:]]
+        objects = list(map(dict, objects_of(run("fields", "--json", *options, path).stdout)))
+        check_equal(f"{reading}: a line and an object for each, and the end", len(objects),
+                    len(rows) + 1)
+        for (what, _, *answers), row, said in zip(READ, rows, objects):
+            values, all_ones = answers[2 * number:2 * number + 2]
+            words = ["missing" if column in all_ones else "none" if value is None else str(value)
+                     for column, value in zip(READ_COLUMNS, values)]
+            check_equal(f"fields of template {what}, {reading}",
+                        [row[column] for column in READ_COLUMNS], words)
+            check_equal("and in JSON, with the reading and what is all ones",
+                        ([said[column] for column in READ_COLUMNS], said.get("reading"),
+                         [column for column in said["missing"] if column in READ_COLUMNS]),
+                        (values, reading, all_ones))
 
 
 # --- Cut files -----------------------------------------------------------------------------------
@@ -456,6 +508,30 @@ def eccodes():
     check(f"index of {len(paths)} samples of eccodes as reference.py says",
           (done.returncode, done.stdout) == (0, expected.encode()),
           first_difference(done.stdout.decode(), expected))
+
+
+def eccodes_aerosols(at):
+    """Of template 44 eccodes writes a time of two octets; of 47 the generating process is where the
+    Manual has it."""
+    if not ECCODES_SAMPLES.is_dir() or shutil.which("grib_set") is None:
+        skip("aerosols that eccodes wrote",
+             "eccodes is not installed (packages libeccodes-tools and libeccodes-data)")
+        return
+    paths = [at / f"aerosol {template} {time}" for template in (44, 45, 46, 47)
+             for time in (6, 32767)]
+    for path in paths:
+        _, template, time = path.name.split()
+        keys = (f"productDefinitionTemplateNumber={template},forecastTime={time},"
+                "typeOfGeneratingProcess=4,aerosolType=62000")
+        subprocess.run(["grib_set", "-s", keys, ECCODES_SAMPLES / "GRIB2.tmpl", path], check=True)
+    expected = f"file\t{HEAD}\n" + "".join(
+        as_table([row_by_eccodes(said)], path) for path, said in zip(paths, said_by_eccodes(paths)))
+    done = run("fields", *paths)
+    check(f"fields of {len(paths)} aerosols that eccodes wrote as grib_get says",
+          (done.returncode, done.stdout) == (0, expected.encode()),
+          first_difference(done.stdout.decode(), expected))
+    times = [line.split("\t")[COLUMNS.index("time") + 1] for line in expected.splitlines()[1:]]
+    check_equal("which has the times that were set", times, ["6", "32767"] * 4)
 
 
 def values_of_the_sample():
@@ -582,8 +658,8 @@ def several_at_once(at):
     files = [file for file, *_ in walk_files.by_hand()][:20]
     paths = [write(at / f"many-{number:02d}", file) for number, file in enumerate(files)]
     paths.insert(7, at / "not there")
-    for words in (("index",), ("fields",), ("fields", "--json"), ("index", "--json", "--strict"),
-                  ("inventory",), ("list",)):
+    for words in (("index",), ("fields",), ("fields", "--json"), ("fields", "--json", "--as-crate"),
+                  ("index", "--json", "--strict"), ("inventory",), ("list",)):
         one = run(*words, *paths)
         for jobs in (["-j", "2"], ["-j5"], ["--jobs", "64"], ["--jobs=3"]):
             found = run(*words, *jobs, *paths)
@@ -629,7 +705,8 @@ def killed_child(at):
     if shutil.which("pgrep") is None:
         skip("a process of -j that is killed", "pgrep is missing (package procps)")
         return
-    long, short = write(at / "long", A * 60_000), write(at / "short", A)
+    # So long that its process works for a second at least; a part of that is waited for.
+    long, short = write(at / "long", A * 300_000), write(at / "short", A)
     process = start("fields", "--json", "-j", "2", long, short)
     while process.poll() is None and not children_of(process):
         time.sleep(0.005)
@@ -640,7 +717,8 @@ def killed_child(at):
     check("a process of -j that is killed: its file has its end alone, with the reason",
           done.returncode == 2 and [end["kind"] for end in ends] == ["end", "submessage", "end"]
           and ends[0]["error"] == "the process that worked on it was ended by a signal"
-          and ends[1]["file"] == str(short), done)
+          and ends[1]["file"] == str(short)
+          and all(end.get("reading") == "by-manual" for end in ends), done)
 
 
 def everything():
@@ -655,6 +733,7 @@ def everything():
         as_the_reference("swept", walk_files.swept()[::2], at)
         as_the_reference("products", list(product_files()), at)
         as_the_reference("extremes", list(extreme_files()), at)
+        readings_by_hand(at)
         refusals_are_told(at)
         cut_files_are_told(at)
         cut_files_at_once(at)
@@ -666,6 +745,7 @@ def everything():
         few_descriptors(at)
         words_that_are_lost(at)
         killed_child(at)
+        eccodes_aerosols(at)
     values_of_the_sample()
     eccodes()
     other_edition()

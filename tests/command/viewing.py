@@ -55,6 +55,11 @@ def section_4(template=0, category=0, number=0, unit=1, time=0, surfaces=GROUND 
     return section(4, bytes(2) + big(template, 2) + start + big(time, 4) + surfaces + rest)
 
 
+def section_4_of_44(time, unit=1, surfaces=GROUND + NO_SURFACE):
+    """An aerosol at a point in time: two octets of time, 32 and 33, and then the surfaces."""
+    return section(4, bytes(2) + big(44, 2) + bytes(21) + big(unit, 1) + big(time, 2) + surfaces)
+
+
 VALUES = section(5) + section(6) + section(7) + END
 
 
@@ -212,7 +217,20 @@ POINTS = {0: "", 1: "", 2: "derived: ", 3: "cluster: ", 4: "cluster: ", 5: "prob
           1000: "", 1002: "", 1100: ""}
 STARTS = {8: "", 9: "probability: ", 10: "percentile: ", 11: "", 12: "derived: ", 13: "cluster: ",
           14: "cluster: ", 61: "", 87: "quantile: ", 91: "category: ", 1001: "", 1101: ""}
-NO_TIMES = (20, 30, 31, 35, 44, 88, 92, 98, 254, 65535)
+NO_TIMES = (20, 30, 31, 35, 88, 92, 98, 254, 65535)
+# By hand: unit and time of template 44, whose two octets have their top bit from 32,768 on.
+TIMES_OF_44 = [
+    (HOUR, 0, "2026-03-14 06:00Z"),
+    (HOUR, 6, "2026-03-14 12:00Z"),
+    (DAY, 18, "2026-04-01 06:00Z"),
+    (SECOND, 32767, "2026-03-14 15:06:07Z"),
+    (MINUTE, 32767, "2026-04-06 00:07Z"),
+    (HOUR, 32767, "2029-12-08 13:00Z"),
+    (HOUR, 32768, "ref 2026-03-14 06:00Z +32768 unit 1"),
+    (SECOND, 65534, "ref 2026-03-14 06:00Z +65534 unit 13"),
+    (HOUR, 65535, "ref 2026-03-14 06:00Z +65535 unit 1"),
+    (200, 7, "ref 2026-03-14 06:00Z +7 unit 200"),
+]
 
 
 def times(at):
@@ -230,8 +248,25 @@ def template_says(at):
                 [(by(t), "from 2026-03-14 12:00Z") for t in STARTS], 1)
     check_cells("numbers that are not the parameter's own are marked", at,
                 [(by(t), kind + "Temperature [K]") for t, kind in {**POINTS, **STARTS}.items()], 2)
-    check_cells("no valid time by a template without a time from the reference time on, nor by 44",
-                at, [(by(t), "ref 2026-03-14 06:00Z") for t in NO_TIMES], 1)
+    check_cells("no valid time by a template without a time from the reference time on", at,
+                [(by(t), "ref 2026-03-14 06:00Z") for t in NO_TIMES], 1)
+
+
+def two_octets_of_time(at):
+    """Template 44, by the Manual; 32,768 and more are valid times where there are four octets."""
+    check_cells("valid times of template 44", at,
+                [(one(product=section_4_of_44(time, unit)), cell)
+                 for unit, time, cell in TIMES_OF_44], 1)
+    check_cells("its level stands behind them", at,
+                [(one(product=section_4_of_44(6, surfaces=surface(103, 0, 10) + NO_SURFACE)),
+                  "10 m above ground")], 3)
+    check_cells("and it has a valid time where the section ends behind them", at,
+                [(one(product=section_4_of_44(6, surfaces=b"")), "2026-03-14 12:00Z"),
+                 (one(product=section(4, section_4_of_44(6, surfaces=b"")[5:-1])),
+                  "ref 2026-03-14 06:00Z")], 1)
+    check_cells("four octets of any other template have a valid time of 32,768 and more", at,
+                [(one(product=section_4(time=32768)), "2029-12-08 14:00Z"),
+                 (one(product=section_4(time=65535)), "2033-09-03 21:00Z")], 1)
 
 
 def no_time(at):
@@ -610,7 +645,8 @@ def eccodes_members(at):
 
 # Template, unit and time.
 STEPS = [(1, 0, 5), (1, 1, 240), (1, 2, 40), (1, 11, 9), (1, 13, 7200), (40, 1, 30), (48, 1, 30),
-         (70, 10, 3), (76, 1, 36), (55, 1, 12), (60, 12, 5), (86, 1, 48), (1000, 1, 18), (32, 1, 6)]
+         (70, 10, 3), (76, 1, 36), (55, 1, 12), (60, 12, 5), (86, 1, 48), (1000, 1, 18), (32, 1, 6),
+         (44, 1, 30), (44, 2, 400), (45, 1, 30)]
 
 
 def eccodes_times(at):
@@ -649,6 +685,7 @@ def everything():
         no_output()
         times(at)
         template_says(at)
+        two_octets_of_time(at)
         no_time(at)
         times_by_python(at)
         levels(at)

@@ -1,5 +1,5 @@
 """The text inventory and its reader by document 02, Ticket 1, read plainly: it says the answers
-that the stored lists expect.
+that the stored lists expect. Product templates are read by the Manual (Ticket 6).
 
 Written from document 02, with the project's reading where 02 leaves two; it shares nothing with the
 library. Words are 02's.
@@ -7,7 +7,7 @@ library. Words are 02's.
 
 import re
 
-from fields_by_01 import fields_by_01
+from fields_by_02 import fields_by_manual
 from reference import Written, refused, walk
 
 LARGEST_NUMBER, LARGEST_TIME, LARGEST_OCTET = 2**40, 2**32 - 1, 255
@@ -26,7 +26,7 @@ def entry_of(file, done, line):
     """The nine fields of a submessage, None for none."""
     product = done.rows[line.places[4]]
     payload = file[product.offset + 5:product.offset + product.length]
-    fields = fields_by_01(4, payload)
+    fields = fields_by_manual(4, payload)
     category, number, _, unit, time, surface = fields[2:8]
     return (line.message, line.submessage, line.offset, file[line.offset + 6],
             category, number, unit, time, surface)

@@ -8,9 +8,9 @@ the end of each of its cuts, too. Where eccodes has a sample's sections says whi
 copy blanks, and a message written of a sample's payloads is the sample itself.
 Fields of whole messages are judged by eccodes (`grib_get`); lengths and templates that no message
 of eccodes has, and the offsets of templates, are judged by `fields_by_01.py`, written from document
-01 and the ranges of its source document 002. Inventories and lists are judged by
-`inventory_by_02.py`, written from document 02, and by eccodes. Where two judges speak, or an answer
-is written by hand, they have to agree.
+01 and the ranges of its source document 002, and by `fields_by_02.py` where templates are read by
+the Manual. Inventories and lists are judged by `inventory_by_02.py`, written from document 02, and
+by eccodes. Where two judges speak, or an answer is written by hand, they have to agree.
 """
 
 import argparse
@@ -23,9 +23,11 @@ import inventory_by_02
 import inventory_files
 import reference
 import write_plans
+from aerosols import READ, with_product
 from copy_files import BEFORE, FULL, LARGEST_ROOM
 from fields_by_01 import (LEAST, PROCESS, PRODUCT_START, SUPPORTED, SURFACES, TIME, fields_by_01,
                           offsets_by_01, signed, start_of)
+from fields_by_02 import fields_by_manual, offsets_by_manual
 from reference import FIRST_VALUES_OCTET, Part, Plan, Section, line_words, unsigned
 from walk_files import (A, A97, A117, CARRIED, END, MISSING, WITH_2, by_hand, cut_anywhere, least,
                         message, section, swept, whole)
@@ -161,8 +163,12 @@ def list_pair(text, room):
     return list_request(text, room), list_answer(*inventory_by_02.read_list(text, room))
 
 
-def offsets_request(template, reading=0):
-    """Reading 0 is the crate's; there is no other before document 02's Ticket 6."""
+# Kind `O`: the numbers of the readings, and who reads so.
+AS_CRATE, BY_MANUAL = 0, 1
+OFFSETS_BY = {AS_CRATE: offsets_by_01, BY_MANUAL: offsets_by_manual}
+
+
+def offsets_request(template, reading=AS_CRATE):
     return b"O" + bytes([reading]) + octets_of(template, 2)
 
 
@@ -170,9 +176,10 @@ def offsets_answer(indices):
     return " ".join(["offsets"] + [word(index) for index in indices])
 
 
-def offsets_pair(template):
-    """An offsets request, answered by the ranges of document 01's source."""
-    return offsets_request(template), offsets_answer(offsets_by_01(template))
+def offsets_pair(template, reading=AS_CRATE):
+    """An offsets request, answered by the ranges of document 01's source, and by 02 where it reads
+    by the Manual."""
+    return offsets_request(template, reading), offsets_answer(OFFSETS_BY[reading](template))
 
 
 def agreed(pair, by_reference):
@@ -213,6 +220,9 @@ OTHERWISE = [
 
 # Supported templates of which this eccodes has no layout.
 NOT_IN_ECCODES = {62, 63}
+
+# Of these a line of the inventory has another time or surface: it reads 44 as the Manual has it.
+OTHERWISE_IN_LINES = (OTHERWISE[1][1] | OTHERWISE[2][1]) - {44}
 
 # The samples differ in grid, in representation, in coordinates and in having a section 2; their
 # product template is always 0, so messages of the others are written by eccodes.
@@ -446,6 +456,14 @@ def edges_list():
     return pairs
 
 
+def aerosols_list():
+    """Kind `F` reads as the crate, also where the Manual has it otherwise."""
+    for what, payload, by_manual, _, as_crate, _ in READ:
+        for read, answer in ((fields_by_manual, by_manual), (fields_by_01, as_crate)):
+            assert read(4, payload)[4:8] == answer, what
+    return [fields_pair(4, payload) for _, payload, *_ in READ]
+
+
 def bad_list():
     """Good requests, then one whose payload lacks its last octet."""
     return [(signed_request(b"\x80\0\1"), "signed -1"), fields_pair(6, b"\xff"),
@@ -660,16 +678,15 @@ def line_by_eccodes(path):
 
 
 def inventories_by_eccodes(samples):
-    """Each sample, and messages that eccodes wrote with unlike values, of templates where 01 and
-    the Manual have the same fields."""
+    """Each sample, and messages that eccodes wrote with unlike values, of templates where a line
+    has what the Manual has."""
     pairs = []
     with tempfile.TemporaryDirectory() as folder:
         written = Path(folder) / "message"
         for path in [samples / (name + ".tmpl") for name in SAMPLES]:
             pairs.append((path.read_bytes(), line_by_eccodes(path)))
-        otherwise = set().union(*(templates for _, templates in OTHERWISE)) | NOT_IN_ECCODES
         for template in numbers_in(SUPPORTED):
-            if template not in otherwise:
+            if template not in OTHERWISE_IN_LINES | NOT_IN_ECCODES:
                 settings = f"tablesVersion=30,productDefinitionTemplateNumber={template},"
                 write_by_eccodes(samples / "GRIB2.tmpl", settings + PRODUCT_SETTINGS, written)
                 pairs.append((written.read_bytes(), line_by_eccodes(written)))
@@ -685,9 +702,23 @@ def lists_by_hand():
             for text, room, outcome, detail, entries in inventory_files.lists_by_hand()]
 
 
+def inventories_by_manual():
+    """Of what tells the two readings apart the inventory has the Manual's: time unit, time and type
+    of the first surface. All in one file, too."""
+    lines = [(with_product(payload), [0, 0, *by_manual[1:]]) for _, payload, by_manual, *_ in READ]
+    files = [[line] for line in lines] + [lines]
+    for fields in files:
+        text, at = b"", 0
+        for number, (file, last) in enumerate(fields):
+            text += inventory_by_02.line_of((number, 0, at, 0, *last))
+            at += len(file)
+        yield (b"".join(file for file, _ in fields), len(text), f"0 0 0 0 {len(text)}", text)
+
+
 def inventory_list(samples):
     """The last request has a table over the limit."""
     pairs = said_inventories(inventory_files.inventories_by_hand())
+    pairs += said_inventories(inventories_by_manual())
     pairs += inventories_by_eccodes(samples)
     for file, room in inventory_files.swept_inventories():
         pairs.append(inventory_pair(file, room))
@@ -704,7 +735,7 @@ OFFSETS = {
     (2, None, None): [16, 89, 90, 254],
     (15, 21, 24): [44],
     (15, 21, 26): [45],
-    (2, 21, 26): [47],
+    (2, 21, 26): [47],          # by the Manual as 45
     (2, 22, 27): [83],
     (2, 26, 5): [88],
     (None, None, None): [50, 53, 54, 57, 58, 67, 68, *range(92, 99), 999, 1102, 65535],
@@ -721,12 +752,17 @@ def far_templates():
 
 
 def offsets_list():
-    """The last request names a reading that there is not."""
+    """By both readings. The last request names a reading that there is not."""
     for indices, templates in OFFSETS.items():
         for template in templates:
-            agreed((offsets_request(template), offsets_answer(indices)), offsets_pair(template))
-    pairs = [offsets_pair(template) for template in [*range(LISTED_IN_ORDER), *far_templates()]]
-    return pairs + [(offsets_request(44, reading=1), "bad")]
+            as_45 = (15, 21, 26) if template == 47 else indices
+            for reading, said in ((AS_CRATE, indices), (BY_MANUAL, as_45)):
+                agreed((offsets_request(template, reading), offsets_answer(said)),
+                       offsets_pair(template, reading))
+    templates = [*range(LISTED_IN_ORDER), *far_templates()]
+    pairs = [offsets_pair(template, reading)
+             for reading in (AS_CRATE, BY_MANUAL) for template in templates]
+    return pairs + [(offsets_request(44, reading=2), "bad")]
 
 
 # File and what gribwalk prints of it: as documents 01 and 02 have it; a second message that is
@@ -780,7 +816,7 @@ def main():
     given = options.parse_args()
     # A bad request ends its list: what is joined stands before it.
     lists = {
-        "replay": (basic_list() + edges_list() + eccodes_list(given.samples)
+        "replay": (basic_list() + edges_list() + aerosols_list() + eccodes_list(given.samples)
                    + copy_list(given.samples)),
         "replay_walk": (walk_list() + tables_list() + pull_list() + missing_list() + carried_list()
                         + bad_list()),

@@ -21,7 +21,7 @@ import files
 import payloads
 import plans
 import verdict
-from replay_lists import offsets_answer, offsets_pair
+from replay_lists import BY_MANUAL, offsets_answer, offsets_pair
 from sides import (LARGEST_TABLES, Oracle, Replay, Told, fields_request, pull_request,
                    signed_request, walk_request, write_request)
 
@@ -136,7 +136,8 @@ class Comparison:
     # --- Templates
 
     def offsets(self):
-        """Of every template number, supported or not; 01's ranges judge each too."""
+        """Of every template number, supported or not; 01's ranges judge each too. By the Manual
+        ours differs from the crate in 47, and there alone."""
         requests = [b"\4" + payloads.telling_places(template) for template in range(65_536)]
         for template, told in enumerate(self.oracle.answers(b"O", requests)):
             by_crate = offsets_answer(payloads.indices_told(told))
@@ -145,6 +146,11 @@ class Comparison:
                 self.difference("01's and the crate's offsets", f"template {template}", by_crate,
                                 by_01)
             self.ask("offsets", request, by_crate)
+            request, by_02 = offsets_pair(template, BY_MANUAL)
+            if (by_crate == by_02) == (template == 47):
+                self.difference("02's and the crate's offsets", f"template {template}", by_crate,
+                                by_02)
+            self.ask("offsets by the Manual", request, by_02)
 
     # --- The writer
 
@@ -225,7 +231,7 @@ def main():
                          help="how many plans without fault; each has faulty copies")
     options.add_argument("--every", type=int, default=1, metavar="N",
                          help="every N-th only: a quick look, which counts no outcome")
-    options.add_argument("--kinds", default="WPFSOM", help="kinds of requests that ours is asked")
+    options.add_argument("--kinds", default="WPFSOMI", help="kinds of requests that ours is asked")
     given = options.parse_args()
     comparison = Comparison(given)
 

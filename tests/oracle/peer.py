@@ -1,8 +1,10 @@
 #!/usr/bin/env -S python3 -B
 """Compare ours with eccodes: its edition-2 samples and messages that it writes, alone and joined.
 
-Of each message: offset, total length, discipline, category, number, unit and time, both surfaces.
-Exit status 1 at a difference that docs/DIFFERENCES.md has not.
+Of each message: offset, total length, discipline, category, number, unit and time, both surfaces,
+product templates as the crate; its line of the inventory, which reads them by the Manual; and the
+generating process, at the offset that templates have by the Manual. Exit status 1 at a difference
+that docs/DIFFERENCES.md has not.
 """
 
 import argparse
@@ -21,9 +23,11 @@ from reference import walk as walk_by_01
 from sides import LARGEST_INPUT, fields_request, run, walk_request
 from walk_files import END, message
 
-CATEGORY_AND_NUMBER, UNIT_AND_TIME, SURFACES = (lists.KEYS[4][part] for part in (
-    slice(2, 4), slice(5, 7), slice(7, None)))
+CATEGORY_AND_NUMBER, PROCESS, UNIT_AND_TIME, SURFACES = (lists.KEYS[4][part] for part in (
+    slice(2, 4), slice(4, 5), slice(5, 7), slice(7, None)))
 PRODUCT_KEYS = CATEGORY_AND_NUMBER + UNIT_AND_TIME + SURFACES
+# What a line of the inventory has of a product, and the generating process.
+MANUAL_KEYS = CATEGORY_AND_NUMBER + UNIT_AND_TIME + SURFACES[:1] + PROCESS
 MESSAGE_KEYS = ["offset", "totalLength", "discipline"]
 TEMPLATE_KEY = "productDefinitionTemplateNumber"
 
@@ -64,7 +68,47 @@ def fields_of(replay, file):
     return found
 
 
+def by_manual(replay, file):
+    """Of each submessage the last five fields of its line in the inventory, and the generating
+    process: the octet where the template has it."""
+    said = ask_ours(replay, lists.inventory_request(file, LARGEST_INPUT))
+    words, dest = said[0].split(), said[1].split()[1]
+    assert words[1] == "0", said[0]
+    lines = bytes.fromhex(dest)[:int(words[5])].decode().splitlines()
+    walked = walk_by_01(file)
+    found = []
+    for line, told in zip(lines, walked.lines, strict=True):
+        row = walked.rows[told.places[4]]
+        payload = file[row.offset + 5:row.offset + row.length]
+        template = lists.unsigned(payload[2:4])
+        answer, = ask_ours(replay, lists.offsets_request(template, lists.BY_MANUAL))
+        index = answer.split()[1]
+        start = None if index == "none" else lists.PRODUCT_START + int(index)
+        process = None if start is None or start >= len(payload) else payload[start]
+        found.append(line.split(":")[4:] + [lists.word(process)])
+    return found
+
+
 # --- The comparison ------------------------------------------------------------------------------
+
+def known_as_crate(key, template):
+    """Of template 88 the crate has a time, which shows where coordinates follow."""
+    of_process, of_time, of_surfaces = (templates for _, templates in lists.OTHERWISE)
+    if key in CATEGORY_AND_NUMBER:
+        return False
+    if key in PROCESS:
+        return template in of_process
+    return template in (of_time | {88} if key in UNIT_AND_TIME else of_surfaces)
+
+
+def mended(key, template):
+    """What the crate has otherwise, and the reading by the Manual as the Manual has it."""
+    return (template == 44 and key in UNIT_AND_TIME) or (template == 47 and key in PROCESS)
+
+
+def known_by_manual(key, template):
+    return known_as_crate(key, template) and not mended(key, template)
+
 
 class Peer:
     def __init__(self, given, folder):
@@ -84,6 +128,9 @@ class Peer:
             self.differs(what, f"eccodes finds {len(by_eccodes)} messages, ours {len(ours)}")
         for said, (of_line, indicator, product) in zip(by_eccodes, ours):
             self.message(what, said, of_line, indicator, product)
+        by_eccodes = ask_eccodes(self.folder, file, [TEMPLATE_KEY] + MANUAL_KEYS)
+        for said, product in zip(by_eccodes, by_manual(self.replay, file), strict=True):
+            self.product(what, int(said[0]), MANUAL_KEYS, said[1:], product, known_by_manual)
 
     def message(self, what, said, of_line, indicator, product):
         """The total length is told twice, by the line and by section 0."""
@@ -91,18 +138,22 @@ class Peer:
         self.counts["messages"] += 1
         if said[:3] != [*of_line, discipline] or said[1] != total:
             self.differs(what, f"eccodes {said[:3]}", f"ours {of_line}, section 0 {indicator}")
-        self.product(what, int(said[3]), said[4:], product[2:4] + product[5:])
+        self.product(what, int(said[3]), PRODUCT_KEYS, said[4:], product[2:4] + product[5:],
+                     known_as_crate)
 
-    def product(self, what, template, said, ours):
-        by_eccodes = map(lists.word, map(lists.value_by_01, PRODUCT_KEYS, said))
-        for key, word, theirs, mine in zip(PRODUCT_KEYS, said, by_eccodes, ours):
+    def product(self, what, template, keys, said, ours, known):
+        """By the reading whose differences these are."""
+        by_eccodes = map(lists.word, map(lists.value_by_01, keys, said))
+        for key, word, theirs, mine in zip(keys, said, by_eccodes, ours):
             self.counts["fields"] += 1
             if word != "not_found" and theirs != word and theirs == mine:
                 self.counts["read another way: " + self.reading(key, word)] += 1
-            elif theirs != mine and self.known(key, template):
+            elif theirs != mine and known(key, template):
                 self.counts["another layout in eccodes, with the Manual"] += 1
             elif theirs != mine:
                 self.differs(what, f"{key} of template {template}: eccodes {word}, ours {mine}")
+            elif known is known_by_manual and mended(key, template):
+                self.counts[f"{key} of {template}, by the Manual as eccodes"] += 1
 
     @staticmethod
     def reading(key, word):
@@ -112,14 +163,6 @@ class Peer:
         if key == "forecastTime":
             return "a signed time in eccodes"
         return "an unsigned scaled value in eccodes"
-
-    @staticmethod
-    def known(key, template):
-        """Of template 88 the crate has a time, which shows where coordinates follow."""
-        _, of_time, of_surfaces = (templates for _, templates in lists.OTHERWISE)
-        if key in CATEGORY_AND_NUMBER:
-            return False
-        return template in (of_time | {88} if key in UNIT_AND_TIME else of_surfaces)
 
     def submessages(self, file, what):
         """A message with several: eccodes lists each, at its message's offset; with -M it lists

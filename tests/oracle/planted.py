@@ -39,12 +39,16 @@ FAULTS = {
         Edit("framing/src/read.rt", "Fault::Cut((EndSection::WHOLE_SIZE - left) as u32)",
              "Fault::Cut((HEADER_SIZE - left) as u32)"),
     ]),
-    # Where the Manual has it; 01 and the crate have it at index 2.
-    "process_of_47": ("template 47's process is at index 15, in definitions and code", "fields", [
-        Edit("products/specs/Templates.antt", "(47 to 47 is At 2)", "(47 to 47 is At 15)"),
-        Edit("products/specs/Rows.antt", "row 2 21 26", "row 15 21 26"),
-        Edit("products/src/templates.rt", "02 * PROCESS + 21 * TIME + 26 * SURFACES, // 47",
-             "15 * PROCESS + 21 * TIME + 26 * SURFACES, // 47"),
+    # Where the Manual has it; 01, the crate and both readings have it at index 2.
+    "process_of_83": ("template 83's process is at index 16, in definitions and code", "fields", [
+        Edit("products/specs/Templates.antt", "(83 to 83 is At 2)", "(83 to 83 is At 16)"),
+        Edit("products/specs/Rows.antt", "row 2 22 27", "row 16 22 27"),
+        Edit("products/src/templates.rt", "02 * PROCESS + 22 * TIME + 27 * SURFACES, // 83",
+             "16 * PROCESS + 22 * TIME + 27 * SURFACES, // 83"),
+    ]),
+    "fields_by_manual": ("kind `F` reads by the Manual; what prints has no contract", "fields", [
+        Edit("replaying/src/answers.rt", "product_of(TemplateReading::AsCrate, payload)",
+             "product_of(TemplateReading::ByManual, payload)"),
     ]),
     # An unsupported template: its fields are none whatever its row says.
     "surfaces_of_16": ("template 16 has surfaces as 15 has, in definitions and code", "offsets", [
@@ -106,7 +110,7 @@ def main():
                          help="the folder below which eccodes' samples are")
     options.add_argument("--every", type=int, default=20, metavar="N",
                          help="compare every N-th file")
-    options.add_argument("--kinds", default="WPFSOM")
+    options.add_argument("--kinds", default="WPFSOMI")
     # argparse holds the empty list to the choices, too.
     options.add_argument("fault", nargs="*", choices=[*FAULTS, []], help="all, if none is named")
     given = options.parse_args()

@@ -64,7 +64,7 @@ def answer_ends(kind):
         return lambda line, before: line.startswith("end ")
     if kind == "P":
         return lambda line, before: line == "ended" and before.count("ended") == 1
-    if kind == "M":
+    if kind in ("M", "I"):
         return lambda line, before: line.startswith("dest ")
     return lambda line, before: True
 

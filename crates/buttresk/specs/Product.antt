@@ -2,7 +2,9 @@
 -- stands beside every value that can be none; where it is 0 the value is 0 and says nothing.
 use Prim.Native.Nat.{ℕ}
 use mathlib.Core.List.{List}
+use lib.Dec.{eqb}
 use lib.IntN.{pos}
+use Rattle.octets.specs.Words.{pick}
 use Rattle.sections.specs.ProdDefinition.{prodDefinitionOf}
 use Rattle.sections.specs.declared.prod_definition.MaybeProdDefinition.{MaybeProdDefinition}
 use Rattle.sections.specs.declared.prod_definition.MaybeProdDefinition.the-variants.{
@@ -10,6 +12,8 @@ use Rattle.sections.specs.declared.prod_definition.MaybeProdDefinition.the-vari
   NoProdDefinition,
 }
 use Rattle.products.specs.Products.{productOf}
+use Rattle.products.specs.declared.templates.TemplateReading.{TemplateReading}
+use Rattle.products.specs.declared.templates.TemplateReading.the-variants.{AsCrate, ByManual}
 use Rattle.products.specs.declared.FixedSurface.{FixedSurface}
 use Rattle.products.specs.declared.MaybeOctet.{MaybeOctet}
 use Rattle.products.specs.declared.MaybeOctet.the-variants.{Octet, NoOctet}
@@ -17,12 +21,15 @@ use Rattle.products.specs.declared.MaybeTime.{MaybeTime}
 use Rattle.products.specs.declared.MaybeTime.the-variants.{Time, NoTime}
 use Rattle.products.specs.declared.MaybeSurfaces.{MaybeSurfaces}
 use Rattle.products.specs.declared.MaybeSurfaces.the-variants.{Both, NoSurfaces}
+use Rattle.products.specs.declared.Product.{Product}
 use Rattle.buttresk.specs.declared.product.DefinitionFields.{DefinitionFields}
 use Rattle.buttresk.specs.declared.product.OctetField.{OctetField}
 use Rattle.buttresk.specs.declared.product.TimeField.{TimeField}
 use Rattle.buttresk.specs.declared.product.Surface.{Surface}
 use Rattle.buttresk.specs.declared.product.SurfacesField.{SurfacesField}
 use Rattle.buttresk.specs.declared.product.ProductFields.{ProductFields}
+use Rattle.buttresk.specs.declared.product.MaybeReading.{MaybeReading}
+use Rattle.buttresk.specs.declared.product.MaybeReading.the-variants.{Named, NoReading}
 
 -- coordinates and template: none under the least payload
 unfoldable pub definitionFields : MaybeProdDefinition → DefinitionFields
@@ -53,11 +60,10 @@ surfacesField (Both first second) =
     record { known = 1; first = surfaceNumbers first; second = surfaceNumbers second }
 surfacesField NoSurfaces = record { known = 0; first = noSurface; second = noSurface }
 
--- section 4
-unfoldable pub productFields : List ℕ → ProductFields
-productFields s =
-    let definition = definitionFields (prodDefinitionOf s) in
-    let product = productOf s in
+-- all fields as numbers
+unfoldable pub fieldsOf : MaybeProdDefinition → Product → ProductFields
+fieldsOf maybe product =
+    let definition = definitionFields maybe in
     record {
       known = definition .known;
       coordinates = definition .coordinates;
@@ -68,3 +74,30 @@ productFields s =
       time = timeField (product .time);
       surfaces = surfacesField (product .surfaces);
     }
+
+-- the reading of a number (02, Ticket 6): 1 as the crate, 2 by the Manual, and no other
+unfoldable pub readingOf : ℕ → MaybeReading
+readingOf number =
+    pick (eqb number 1) (Named AsCrate) (pick (eqb number 2) (Named ByManual) NoReading)
+
+-- a product of which nothing is known
+abbrev pub noProduct : Product
+noProduct =
+    record {
+      category = NoOctet;
+      number = NoOctet;
+      process = NoOctet;
+      time = NoTime;
+      surfaces = NoSurfaces;
+    }
+
+-- of a payload by a reading, and nothing without one
+unfoldable pub fieldsBy :
+    MaybeReading → MaybeProdDefinition → (TemplateReading → Product) → ProductFields
+fieldsBy (Named reading) definition product = fieldsOf definition (product reading)
+fieldsBy NoReading definition product = fieldsOf NoProdDefinition noProduct
+
+-- section 4: of a payload, by the reading that a number names
+unfoldable pub productFields : ℕ → List ℕ → ProductFields
+productFields number s =
+    fieldsBy (readingOf number) (prodDefinitionOf s) (λ reading. productOf reading s)

@@ -1,12 +1,15 @@
-// The decoded fields of section 4. A `known` stands beside every value that can be none: where it
-// is 0, the value says nothing.
+// The decoded fields of section 4, by a reading that the caller names. A `known` stands beside every
+// value that can be none: where it is 0, the value says nothing.
 ghost use mathlib.Core.Path.{_≡_};
 ghost use Rattle.buttresk.specs.Product.{octetField, timeField, surfaceNumbers};
-ghost use Rattle.buttresk.specs.Product.{surfacesField, definitionFields, productFields};
+ghost use Rattle.buttresk.specs.Product.{surfacesField, definitionFields, fieldsOf};
+ghost use Rattle.buttresk.specs.Product.{readingOf, productFields};
 use products::FixedSurface;
 use products::MaybeOctet;
 use products::MaybeSurfaces;
 use products::MaybeTime;
+use products::Product;
+use products::TemplateReading;
 use products::product_of;
 use sections::MaybeProdDefinition;
 use sections::ProdDefinition;
@@ -135,13 +138,11 @@ fn surfaces_field(maybe: MaybeSurfaces) -> SurfacesField
     }
 }
 
-// Section 4's fields with `known` 1, or `known` 0: of its payload. Each product field has its own.
-#[no_mangle]
-pub extern "C" fn buttresk_product_definition(payload: &[u8]) -> ProductFields
-    ensures { λ r. ⌜ r ≡ productFields (now (payload .entry)) ⌝ }
+// All fields as numbers.
+fn product_fields(definition: MaybeProdDefinition, product: Product) -> ProductFields
+    ensures { λ r. ⌜ r ≡ fieldsOf definition product ⌝ }
 {
-    let definition = definition_fields(ProdDefinition::from_payload(payload));
-    let product = product_of(payload);
+    let definition = definition_fields(definition);
     let category = product.category;
     let number = product.number;
     let process = product.process;
@@ -157,4 +158,51 @@ pub extern "C" fn buttresk_product_definition(payload: &[u8]) -> ProductFields
         time: time_field(time),
         surfaces: surfaces_field(surfaces),
     }
+}
+
+// The number of the reading as the crate.
+const AS_CRATE: u64 = 1;
+
+// The number of the one by the Manual.
+const BY_MANUAL: u64 = 2;
+
+enum MaybeReading {
+    Named(TemplateReading),
+    NoReading,
+}
+
+// The reading that a number names. No other is taken for the one that it may have meant.
+fn reading_of(number: u64) -> MaybeReading
+    ensures { λ r. ⌜ r ≡ readingOf number ⌝ }
+{
+    if number == AS_CRATE {
+        return MaybeReading::Named(TemplateReading::AsCrate);
+    }
+    if number == BY_MANUAL {
+        return MaybeReading::Named(TemplateReading::ByManual);
+    }
+    MaybeReading::NoReading
+}
+
+// Section 4's fields with `known` 1, or `known` 0: of its payload, by a reading. Each product field
+// has its own. By a number that names no reading every `known` is 0. The number has 64 bits, so that
+// a wider one of the caller's is never cut down to one that names a reading.
+#[no_mangle]
+pub extern "C" fn buttresk_product_definition(reading: u64, payload: &[u8]) -> ProductFields
+    ensures { λ r. ⌜ r ≡ productFields reading (now (payload .entry)) ⌝ }
+{
+    let MaybeReading::Named(named) = reading_of(reading) else {
+        let none = Product {
+            category: MaybeOctet::NoOctet,
+            number: MaybeOctet::NoOctet,
+            process: MaybeOctet::NoOctet,
+            time: MaybeTime::NoTime,
+            surfaces: MaybeSurfaces::NoSurfaces,
+        };
+        return product_fields(MaybeProdDefinition::NoProdDefinition, none);
+    };
+    product_fields(
+        ProdDefinition::from_payload(payload),
+        product_of(named, payload),
+    )
 }

@@ -18,6 +18,7 @@ use Rattle.sections.specs.declared.prod_definition.MaybeProdDefinition.{MaybePr
 use Rattle.sections.specs.declared.repr_definition.MaybeReprDefinition.{MaybeReprDefinition}
 use Rattle.sections.specs.declared.bit_map.MaybeBitMap.{MaybeBitMap}
 use Rattle.products.specs.Products.{productOf}
+use Rattle.products.specs.declared.templates.TemplateReading.{TemplateReading}
 use Rattle.products.specs.declared.Product.{Product}
 use Rattle.framing.specs.declared.read.Section.{Section}
 
@@ -29,13 +30,14 @@ ownOctets file s = take (s .length) (drop (s .offset .0) file)
 unfoldable pub payloadOf : List ℕ → Section → List ℕ
 payloadOf file s = drop kinds.headerSize (ownOctets file s)
 
--- what a section 4 says: its own fields and the product fields
+-- what a section 4 says: its own fields, and the product fields by either reading
 pub record ProductSection : Type 0 where
   pub definition : MaybeProdDefinition
-  pub product : Product
+  pub product : TemplateReading → Product
 
 unfoldable pub productSectionOf : List ℕ → ProductSection
-productSectionOf s = record { definition = prodDefinitionOf s; product = productOf s }
+productSectionOf s =
+    record { definition = prodDefinitionOf s; product = λ reading. productOf reading s }
 
 -- the decoded fields of a section; sections 2, 7 and 8 have none
 pub data SectionFields : Type 0 where

@@ -11,6 +11,7 @@ use Rattle.sections.specs.Indicator.{indicatorOf}
 use Rattle.sections.specs.declared.indicator.Indicator.{Indicator}
 use Rattle.sections.specs.declared.indicator.MaybeIndicator.the-variants.{Fields}
 use Rattle.products.specs.Products.{categoryOf, parameterOf, forecastOf, fixedOf, productOf}
+use Rattle.products.specs.declared.templates.TemplateReading.the-variants.{ByManual}
 use Rattle.framing.specs.LaidOut.{LaidOut, nothingMore, indicatorNext, endNext, headedNext}
 use Rattle.framing.specs.declared.read.Offset.{Offset}
 use Rattle.framing.specs.declared.read.Section.{Section}
@@ -83,7 +84,7 @@ has-entry file told laid line pins =
     let fourth = pins .product .there in
     let z = toldAt told (line .indicator .0) in
     let p = toldAt told (line .product .0) in
-    let product = productOf (payloadOf file p) in
+    let product = productOf ByManual (payloadOf file p) in
     let same = payload-behind file p in
     record {
       entry = entryWith line (saidBy file z) product;
@@ -101,8 +102,8 @@ has-entry file told laid line pins =
             discipline = ap (λ (o : Offset). getD file (o .0 + 6) 0) (sym (pins .offset));
             category = ap categoryOf same;
             number = ap parameterOf same;
-            time = ap forecastOf same;
-            surface = ap (λ (l : List ℕ). firstSurface (fixedOf l)) same;
+            time = ap (forecastOf ByManual) same;
+            surface = ap (λ (l : List ℕ). firstSurface (fixedOf ByManual l)) same;
           };
     }
 

@@ -14,6 +14,7 @@ use Rattle.sections.specs.Indicator.{indicatorOf}
 use Rattle.sections.specs.declared.indicator.MaybeIndicator.{MaybeIndicator}
 use Rattle.sections.specs.declared.indicator.MaybeIndicator.the-variants.{Fields, NoIndicator}
 use Rattle.products.specs.Products.{productOf}
+use Rattle.products.specs.declared.templates.TemplateReading.the-variants.{ByManual}
 use Rattle.products.specs.declared.Product.{Product}
 use Rattle.framing.specs.declared.read.Section.{Section}
 use Rattle.framing.proofs.Tests.{by-test, never-both}
@@ -223,14 +224,14 @@ module _ (file : List ℕ) (told : List Section) where
       → (forEach (forEach zeroths indicatorIn) λ i.
       forEach (forEach fourths productIn) λ product.
       entryWith line i product ∷ [])
-      ≡ forEach (indicatorIn (ofIndicator (indicatorOf (ownOctets file z)))) λ i. entryWith line i (productOf (payloadOf file p)) ∷ []
+      ≡ forEach (indicatorIn (ofIndicator (indicatorOf (ownOctets file z)))) λ i. entryWith line i (productOf ByManual (payloadOf file p)) ∷ []
   unfolding productIn productSectionOf
   from-lists line z p zeroths fourths f g =
-      rw (f, g) (from-one line (indicatorOf (ownOctets file z)) (productOf (payloadOf file p)))
+      rw (f, g) (from-one line (indicatorOf (ownOctets file z)) (productOf ByManual (payloadOf file p)))
 
   pub entry-at : (line : Line) {z p : Section} → StandsThere told 0 (line .indicator .0) z → StandsThere told 4 (line .product .0) p
       → entryAt (decoded file told) line
-      ≡ forEach (indicatorIn (ofIndicator (indicatorOf (ownOctets file z)))) λ i. entryWith line i (productOf (payloadOf file p)) ∷ []
+      ≡ forEach (indicatorIn (ofIndicator (indicatorOf (ownOctets file z)))) λ i. entryWith line i (productOf ByManual (payloadOf file p)) ∷ []
   unfolding entryAt
   entry-at line {z} {p} zeroth fourth =
       let here = line .indicator .0 in

@@ -7,6 +7,7 @@ use mathlib.Core.List.{List, [], _∷_}
 use lib.Dec.{ltb, eqb}
 use lib.ListN.{length, take, drop, length-take, length-drop}
 use borrow.Author.Tests.{ltb-false}
+use Rattle.products.specs.declared.templates.TemplateReading.the-variants.{ByManual}
 use Rattle.products.proofs.Within.{Octets, category-within, parameter-within, forecast-within, fixed-within}
 use Rattle.framing.specs.Framing.{readAt}
 use Rattle.framing.specs.Listing.{Ending, Listing, listedBy, listingFrom, listing}
@@ -105,8 +106,8 @@ module _ (file : List ℕ) (every : Every InOctet file) (fits : length file ≤ 
         discipline = rw (pinned .discipline) (octets-of file every (e .offset .0 + 6));
         category = rw (pinned .category) (category-within OctetInBounds tt (λ n low. low) s octets);
         number = rw (pinned .number) (parameter-within OctetInBounds tt (λ n low. low) s octets);
-        time = rw (pinned .time) (forecast-within TimeInBounds tt (λ t unit time. (unit, time)) s octets);
-        surface = rw (pinned .surface) (fixed-within (λ x. OctetInBounds (firstSurface x)) tt (λ a b low. low) s octets);
+        time = rw (pinned .time) (forecast-within TimeInBounds tt (λ t unit time. (unit, time)) ByManual s octets);
+        surface = rw (pinned .surface) (fixed-within (λ x. OctetInBounds (firstSurface x)) tt (λ a b low. low) ByManual s octets);
       }
 
   each-in-bounds : (lines : List Line) (entries : List Entry) → Every (PinnedLine file told) lines → EachTwo (PinnedEntry file told) lines entries

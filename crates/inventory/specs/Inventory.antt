@@ -12,6 +12,7 @@ use Rattle.products.specs.declared.MaybeOctet.{MaybeOctet}
 use Rattle.products.specs.declared.MaybeOctet.the-variants.{Octet, NoOctet}
 use Rattle.products.specs.declared.MaybeSurfaces.{MaybeSurfaces}
 use Rattle.products.specs.declared.MaybeSurfaces.the-variants.{Both, NoSurfaces}
+use Rattle.products.specs.declared.templates.TemplateReading.the-variants.{ByManual}
 use Rattle.index.specs.Bounds.{unlimited}
 use Rattle.index.specs.Walk.{walked}
 use Rattle.products.specs.declared.Product.{Product}
@@ -62,12 +63,12 @@ indicatorIn (ofRepresentation fields) = []
 indicatorIn (ofBitMap fields) = []
 indicatorIn ofNone = []
 
--- and as a section 4
+-- and as a section 4, by the Manual (02, Ticket 6)
 unfoldable pub productIn : SectionFields → List Product
 productIn (ofIndicator fields) = []
 productIn (ofIdentification fields) = []
 productIn (ofGrid fields) = []
-productIn (ofProduct fields) = fields .product ∷ []
+productIn (ofProduct fields) = fields .product ByManual ∷ []
 productIn (ofRepresentation fields) = []
 productIn (ofBitMap fields) = []
 productIn ofNone = []

@@ -5,6 +5,7 @@ use mathlib.Core.Path.{_≡_}
 use mathlib.Core.List.{List, [], _∷_}
 use lib.ListN.{getD, take, drop}
 use Rattle.products.specs.Products.{categoryOf, parameterOf, forecastOf, fixedOf}
+use Rattle.products.specs.declared.templates.TemplateReading.the-variants.{ByManual}
 use Rattle.framing.specs.declared.read.Section.{Section}
 use Rattle.index.specs.Bounds.{unlimited}
 use Rattle.index.specs.Walk.{walked}
@@ -20,7 +21,8 @@ abbrev pub behindHeader : List ℕ → Section → List ℕ
 behindHeader file s = take (s .length - 5) (drop (s .offset .0 + 5) file)
 
 -- an entry of a line: its numbers and its offset are the line's; a section 0 stands at its place
--- there, and says the discipline by its octet 7; a section 4 stands at its place, and its payload says the rest
+-- there, and says the discipline by its octet 7; a section 4 stands at its place, and its payload
+-- says the rest, by the Manual
 pub record PinnedEntry (file : List ℕ) (told : List Section) (line : Line) (e : Entry)
     : Type 0 where
   pub zeroth : ToldAt told 0 (line .indicator .0)
@@ -32,9 +34,11 @@ pub record PinnedEntry (file : List ℕ) (told : List Section) (line : Line) (e 
   pub discipline : e .discipline ≡ getD file (e .offset .0 + 6) 0
   pub category : e .category ≡ categoryOf (behindHeader file (toldAt told (line .product .0)))
   pub number : e .number ≡ parameterOf (behindHeader file (toldAt told (line .product .0)))
-  pub time : e .time ≡ forecastOf (behindHeader file (toldAt told (line .product .0)))
+  pub time :
+      e .time ≡ forecastOf ByManual (behindHeader file (toldAt told (line .product .0)))
   pub surface :
-      e .surface ≡ firstSurface (fixedOf (behindHeader file (toldAt told (line .product .0))))
+      e .surface
+      ≡ firstSurface (fixedOf ByManual (behindHeader file (toldAt told (line .product .0))))
 
 -- it is so of each two at one place of two lists, which are equally long
 abbrev pub EachTwo : {A B : Type 0} → (A → B → Type 0) → List A → List B → Type 0

@@ -5,6 +5,7 @@ use mathlib.Core.List.{List, [], _∷_, _++_}
 use lib.ListN.{length, take, drop}
 use Rattle.sections.specs.Indicator.{indicatorOf}
 use Rattle.products.specs.Products.{productOf}
+use Rattle.products.specs.declared.templates.TemplateReading.the-variants.{ByManual}
 use Rattle.index.specs.Bounds.{unlimited}
 use Rattle.index.specs.Walk.{walked}
 use Rattle.index.specs.Decoded.{ofIndicator, ownOctets, payloadOf}
@@ -26,7 +27,7 @@ putInText text at octets = take at text ++ (octets ++ drop (at + length octets) 
 unfoldable pub entriesIn : List ℕ → Memory → List Entry
 entriesIn file m =
     forEach (indicatorIn (ofIndicator (indicatorOf (ownOctets file (m .zeroth))))) λ indicator.
-    entryIn m indicator (productOf (payloadOf file (m .fourth))) ∷ []
+    entryIn m indicator (productOf ByManual (payloadOf file (m .fourth))) ∷ []
 
 -- the entry that is due
 unfoldable pub dueEntries : List ℕ → Memory → Due → List Entry

@@ -24,6 +24,7 @@ use index::Outcome;
 use index::unlisted;
 use order::Place;
 use order::completing;
+use products::TemplateReading;
 use products::product_by;
 use reading::Seen;
 use reading::look;
@@ -86,7 +87,11 @@ fn put_memory(templates: &[u32], file: &[u8], text: &mut [u8], at: usize, memory
     let MaybeIndicator::Fields(indicator) = known else {
         return at;
     };
-    let product = product_by(templates, payload_of(file, fourth));
+    let product = product_by(
+        templates,
+        TemplateReading::ByManual,
+        payload_of(file, fourth),
+    );
     put_entry(text, at, entry_in(memory, indicator, product))
 }
 

@@ -17,8 +17,8 @@ use Rattle.products.specs.Templates.{
   timeIndex,
   surfaces,
   surfacesIndex,
-  offsetsOf,
 }
+use Rattle.products.specs.Readings.{asCrate, byReading, offsetsOf}
 use Rattle.products.specs.Rows.{no, none, column, columns, offsetsBy, rows, TableIsTheRanges}
 use Rattle.products.specs.Products.{
   supportedOf,
@@ -30,6 +30,7 @@ use Rattle.products.specs.Products.{
 }
 use Rattle.products.specs.declared.Supported.{Supported}
 use Rattle.products.specs.declared.Supported.the-variants.{Template, NoTemplate}
+use Rattle.products.specs.declared.templates.TemplateReading.{TemplateReading}
 use Rattle.products.specs.declared.templates.Index.{Index}
 use Rattle.products.specs.declared.templates.Index.the-variants.{At, Absent}
 use Rattle.products.proofs.EachEntry.{every, at-each, inside-it}
@@ -62,8 +63,8 @@ so-many : length rows ≡ 1102
 unfolding rows
 so-many = refl
 
-in-every-row : (n : ℕ) → n < 1102 → columns (getD rows n none) ≡ offsetsOf n
-unfolding right columns offsetsOf
+in-every-row : (n : ℕ) → n < 1102 → columns (getD rows n none) ≡ asCrate n
+unfolding right columns asCrate
 in-every-row n inside =
     let within : n < length rows = omega (arith, so-many) in
     let r = getD rows n 0 in
@@ -77,8 +78,8 @@ in-every-row n inside =
     let s = same-is (column (r / 65536)) (surfacesIndex n) (others .1) in
     rw (inside-it rows n none 0 within) (cc)
 
-none-above : (n : ℕ) → 1101 < n → offsetsOf n ≡ columns none
-unfolding columns column offsetsOf processIndex processes timeIndex times surfacesIndex surfaces
+none-above : (n : ℕ) → 1101 < n → asCrate n ≡ columns none
+unfolding columns column asCrate processIndex processes timeIndex times surfacesIndex surfaces
 none-above n above =
     let p = past Absent 1102 n processes tt above in
     let t = past Absent 1102 n times tt above in
@@ -102,22 +103,24 @@ table-is-the-ranges =
       mark-is-none = mark-is-none;
     }
 
--- so lent to a lookup it says what the ranges say, of every number
-pub by-the-table : (n : ℕ) → offsetsBy rows n ≡ offsetsOf n
-unfolding offsetsBy
-by-the-table n = side (ltb n 1102) refl
+-- so lent to a lookup it says what the ranges say, of every number and by both readings
+pub by-the-table : (reading : TemplateReading) (n : ℕ) → offsetsBy rows reading n ≡ offsetsOf reading n
+unfolding offsetsBy offsetsOf
+by-the-table reading n = ap (byReading reading n) (side (ltb n 1102) refl)
   where
-    side : (u : Bool) → ltb n 1102 ≡ u → columns (getD rows n none) ≡ offsetsOf n
+    side : (u : Bool) → ltb n 1102 ≡ u → columns (getD rows n none) ≡ asCrate n
     side true e = in-every-row n (omega (arith, ltb-true))
     side false e =
         ap columns (List·getD-eq-default rows none (omega (arith, so-many, ltb-false)))
         ∙ sym (none-above n (omega (arith, ltb-false)))
 
 -- and a payload says by it what it says by the ranges
-pub product-by-the-table : (s : List ℕ) → productBy rows s ≡ productOf s
-unfolding productBy productOf processOf forecastOf fixedOf offsetsOf
-product-by-the-table s = by-template (supportedOf s) refl
+pub product-by-the-table : (reading : TemplateReading) (s : List ℕ)
+    → productBy rows reading s ≡ productOf reading s
+unfolding productBy productOf processOf forecastOf fixedOf
+product-by-the-table reading s = by-template (supportedOf s) refl
   where
-    by-template : (t : Supported) → supportedOf s ≡ t → productBy rows s ≡ productOf s
-    by-template (Template n) e = rw (e, by-the-table n)
+    by-template : (t : Supported) → supportedOf s ≡ t
+        → productBy rows reading s ≡ productOf reading s
+    by-template (Template n) e = rw (e, by-the-table reading n)
     by-template NoTemplate e = rw e

@@ -1,4 +1,4 @@
--- What a payload of octets says: numbers of one octet, and a time of four.
+-- What a payload of octets says: numbers of one octet, and a time of at most four.
 use Prim.Native.Nat.{ℕ, _+_, _≤_}
 use native.Mathlib.Omega.{arith}
 use mathlib.Core.Path.{_≡_, refl, subst}
@@ -25,9 +25,13 @@ use Rattle.products.specs.Products.{
   forecastOf,
   fixedOf,
 }
-use Rattle.products.specs.Templates.{timeIndex, surfacesIndex}
+use Rattle.products.specs.Readings.{octetsIn, offsetsOf}
 use Rattle.products.specs.declared.templates.Index.{Index}
 use Rattle.products.specs.declared.templates.Index.the-variants.{At, Absent}
+use Rattle.products.specs.declared.templates.TimeOctets.{TimeOctets}
+use Rattle.products.specs.declared.templates.TimeOctets.the-variants.{Two, Four}
+use Rattle.products.specs.declared.templates.TemplateReading.{TemplateReading}
+use Rattle.products.specs.declared.templates.Offsets.{Offsets}
 use Rattle.products.specs.declared.Supported.{Supported}
 use Rattle.products.specs.declared.Supported.the-variants.{Template, NoTemplate}
 use Rattle.products.specs.declared.MaybeOctet.{MaybeOctet}
@@ -53,14 +57,15 @@ either In true p q = p
 either In false p q = q
 
 -- by the template, at an index
-module _ {A : Type 0} (In : A → Type 0) {none : A} (fine : In none) {f : List ℕ → A} (so : (s : List ℕ) → Octets s → In (f s))
-    (s : List ℕ) (octets : Octets s) where
-  at-index : (i : Index) → In (byIndex none f s i)
-  at-index (At i) = so (drop i (drop 4 s)) (octets-drop i (drop 4 s) (octets-drop 4 s octets))
-  at-index Absent = fine
+module _ {A : Type 0} (In : A → Type 0) {none : A} (fine : In none) {f : ℕ → List ℕ → A}
+    (so : (n : ℕ) (s : List ℕ) → Octets s → In (f n s)) (s : List ℕ) (octets : Octets s) where
+  at-index : (n : ℕ) (i : Index) → In (byIndex none (f n) s i)
+  at-index n (At i) = so n (drop i (drop 4 s)) (octets-drop i (drop 4 s) (octets-drop 4 s octets))
+  at-index n Absent = fine
 
-  by-template : (index : ℕ → Index) (t : Supported) → In (byTemplate none (λ n. byIndex none f s (index n)) t)
-  by-template index (Template n) = at-index (index n)
+  by-template : (index : ℕ → Index) (t : Supported)
+      → In (byTemplate none (λ n. byIndex none (f n) s (index n)) t)
+  by-template index (Template n) = at-index n (index n)
   by-template index NoTemplate = fine
 
 module _ (In : MaybeOctet → Type 0) (fine : In NoOctet) (octet : (n : ℕ) → n ≤ 255 → In (Octet n)) where
@@ -70,22 +75,27 @@ module _ (In : MaybeOctet → Type 0) (fine : In NoOctet) (octet : (n : ℕ) →
 
   pub category-within : (s : List ℕ) → Octets s → In (categoryOf s)
   unfolding categoryOf
-  category-within s octets = by-template In fine octet-within s octets (λ n. At 0) (supportedOf s)
+  category-within s octets = by-template In fine (λ n. octet-within) s octets (λ n. At 0) (supportedOf s)
 
   pub parameter-within : (s : List ℕ) → Octets s → In (parameterOf s)
   unfolding parameterOf
-  parameter-within s octets = by-template In fine octet-within s octets (λ n. At 1) (supportedOf s)
+  parameter-within s octets = by-template In fine (λ n. octet-within) s octets (λ n. At 1) (supportedOf s)
 
 module _ (In : MaybeTime → Type 0) (fine : In NoTime) (time : (t : ForecastTime) → t .unit ≤ 255 → t .time ≤ 4294967295 → In (Time t)) where
-  time-within : (s : List ℕ) → Octets s → In (timeOf s)
-  unfolding timeOf
-  time-within s octets =
+  time-within : (width : TimeOctets) (s : List ℕ) → Octets s → In (timeOf width s)
+  unfolding timeOf octetsIn
+  time-within Two s octets =
+      either In (ltb (length s) 3) fine
+      (time _ (octets 0) (omega (arith, be-lt s 1 (λ i. omega (arith, octets i)) 2)))
+  time-within Four s octets =
       either In (ltb (length s) 5) fine
       (time _ (octets 0) (omega (arith, be-lt s 1 (λ i. omega (arith, octets i)) 4)))
 
-  pub forecast-within : (s : List ℕ) → Octets s → In (forecastOf s)
+  pub forecast-within : (reading : TemplateReading) (s : List ℕ) → Octets s → In (forecastOf reading s)
   unfolding forecastOf
-  forecast-within s octets = by-template In fine time-within s octets timeIndex (supportedOf s)
+  forecast-within reading s octets =
+      by-template In fine (λ n. time-within (offsetsOf reading n .width)) s octets
+      (λ n. offsetsOf reading n .time) (supportedOf s)
 
 -- one surface
 abbrev Within : MaybeSurface → Type 0
@@ -111,6 +121,8 @@ module _ (In : MaybeSurfaces → Type 0) (fine : In NoSurfaces) (pair : (a b : F
       by-both (Surface a) NoSurface p q = rw (p, q) fine
       by-both NoSurface b p q = rw p fine
 
-  pub fixed-within : (s : List ℕ) → Octets s → In (fixedOf s)
+  pub fixed-within : (reading : TemplateReading) (s : List ℕ) → Octets s → In (fixedOf reading s)
   unfolding fixedOf
-  fixed-within s octets = by-template In fine surfaces-within s octets surfacesIndex (supportedOf s)
+  fixed-within reading s octets =
+      by-template In fine (λ n. surfaces-within) s octets (λ n. offsetsOf reading n .surfaces)
+      (supportedOf s)

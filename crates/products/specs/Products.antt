@@ -1,5 +1,5 @@
 -- The product fields of a payload of section 4, octets from 0 (01, "Fields": "Product fields").
-use Prim.Native.Nat.{ℕ}
+use Prim.Native.Nat.{ℕ, _+_}
 use mathlib.Core.List.{List}
 use lib.Dec.{ltb}
 use lib.ListN.{length, getD, take, drop}
@@ -8,10 +8,14 @@ use Rattle.octets.specs.BigEndian.{beAt}
 use Rattle.octets.specs.Signed.{signedOf}
 use Rattle.octets.specs.declared.Signed.{Signed}
 use Rattle.octets.specs.declared.Signed.the-variants.{Number, NoNumber}
-use Rattle.products.specs.Templates.{isSupported, processIndex, timeIndex, surfacesIndex}
+use Rattle.products.specs.Templates.{isSupported}
+use Rattle.products.specs.Readings.{octetsIn, offsetsOf}
 use Rattle.products.specs.Rows.{offsetsBy}
 use Rattle.products.specs.declared.templates.Index.{Index}
 use Rattle.products.specs.declared.templates.Index.the-variants.{At, Absent}
+use Rattle.products.specs.declared.templates.TimeOctets.{TimeOctets}
+use Rattle.products.specs.declared.templates.TemplateReading.{TemplateReading}
+use Rattle.products.specs.declared.templates.Offsets.{Offsets}
 use Rattle.products.specs.declared.MaybeOctet.{MaybeOctet}
 use Rattle.products.specs.declared.MaybeOctet.the-variants.{Octet, NoOctet}
 use Rattle.products.specs.declared.MaybeTime.{MaybeTime}
@@ -34,9 +38,12 @@ supportedOf s =
 unfoldable pub octetOf : List ℕ → MaybeOctet
 octetOf s = pick (ltb (length s) 1) NoOctet (Octet (getD s 0 0))
 
--- a unit octet and four octets of time
-unfoldable pub timeOf : List ℕ → MaybeTime
-timeOf s = pick (ltb (length s) 5) NoTime (Time (record { unit = getD s 0 0; time = beAt s 1 4 }))
+-- a unit octet and the octets of a time, without sign
+unfoldable pub timeOf : TimeOctets → List ℕ → MaybeTime
+timeOf width s =
+    let octets = octetsIn width in
+    pick (ltb (length s) (1 + octets)) NoTime
+    (Time (record { unit = getD s 0 0; time = beAt s 1 octets }))
 
 abbrev surfaceBy : ℕ → Signed → Signed → MaybeSurface
 surfaceBy t (Number f) (Number v) = Surface (record { surface = t; factor = f; value = v })
@@ -75,37 +82,49 @@ categoryOf s = byTemplate NoOctet (λ n. byIndex NoOctet octetOf s (At 0)) (supp
 unfoldable pub parameterOf : List ℕ → MaybeOctet
 parameterOf s = byTemplate NoOctet (λ n. byIndex NoOctet octetOf s (At 1)) (supportedOf s)
 
--- generating process, time and surfaces at 4 plus an index chosen by the template number
-unfoldable pub processOf : List ℕ → MaybeOctet
-processOf s = byTemplate NoOctet (λ n. byIndex NoOctet octetOf s (processIndex n)) (supportedOf s)
+-- what a payload says at a template's offsets, the time in so many octets
+abbrev pub processAt : List ℕ → Offsets → MaybeOctet
+processAt s o = byIndex NoOctet octetOf s (o .process)
 
-unfoldable pub forecastOf : List ℕ → MaybeTime
-forecastOf s = byTemplate NoTime (λ n. byIndex NoTime timeOf s (timeIndex n)) (supportedOf s)
+abbrev pub timeAt : List ℕ → Offsets → MaybeTime
+timeAt s o = byIndex NoTime (timeOf (o .width)) s (o .time)
 
-unfoldable pub fixedOf : List ℕ → MaybeSurfaces
-fixedOf s =
-    byTemplate NoSurfaces (λ n. byIndex NoSurfaces surfacesOf s (surfacesIndex n)) (supportedOf s)
+abbrev pub surfacesAt : List ℕ → Offsets → MaybeSurfaces
+surfacesAt s o = byIndex NoSurfaces surfacesOf s (o .surfaces)
+
+-- generating process, time and surfaces at 4 plus an index chosen by the template number, by a
+-- reading
+unfoldable pub processOf : TemplateReading → List ℕ → MaybeOctet
+processOf reading s =
+    byTemplate NoOctet (λ n. processAt s (offsetsOf reading n)) (supportedOf s)
+
+unfoldable pub forecastOf : TemplateReading → List ℕ → MaybeTime
+forecastOf reading s = byTemplate NoTime (λ n. timeAt s (offsetsOf reading n)) (supportedOf s)
+
+unfoldable pub fixedOf : TemplateReading → List ℕ → MaybeSurfaces
+fixedOf reading s =
+    byTemplate NoSurfaces (λ n. surfacesAt s (offsetsOf reading n)) (supportedOf s)
 
 -- all five
-unfoldable pub productOf : List ℕ → Product
-productOf s =
+unfoldable pub productOf : TemplateReading → List ℕ → Product
+productOf reading s =
     record {
       category = categoryOf s;
       number = parameterOf s;
-      process = processOf s;
-      time = forecastOf s;
-      surfaces = fixedOf s;
+      process = processOf reading s;
+      time = forecastOf reading s;
+      surfaces = fixedOf reading s;
     }
 
 -- all five by lent rows
-unfoldable pub productBy : List ℕ → List ℕ → Product
-productBy lent s =
-    let by = offsetsBy lent in
+unfoldable pub productBy : List ℕ → TemplateReading → List ℕ → Product
+productBy lent reading s =
+    let by = offsetsBy lent reading in
     let told = supportedOf s in
     record {
       category = categoryOf s;
       number = parameterOf s;
-      process = byTemplate NoOctet (λ n. byIndex NoOctet octetOf s (by n .process)) told;
-      time = byTemplate NoTime (λ n. byIndex NoTime timeOf s (by n .time)) told;
-      surfaces = byTemplate NoSurfaces (λ n. byIndex NoSurfaces surfacesOf s (by n .surfaces)) told;
+      process = byTemplate NoOctet (λ n. processAt s (by n)) told;
+      time = byTemplate NoTime (λ n. timeAt s (by n)) told;
+      surfaces = byTemplate NoSurfaces (λ n. surfacesAt s (by n)) told;
     }

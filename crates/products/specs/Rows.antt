@@ -8,9 +8,11 @@ use mathlib.Core.List.{List, [], _∷_}
 use lib.Dec.{eqb}
 use lib.ListN.{length, getD}
 use Rattle.octets.specs.Words.{pick}
-use Rattle.products.specs.Templates.{offsetsOf}
+use Rattle.products.specs.Readings.{asCrate, byReading}
 use Rattle.products.specs.declared.templates.Index.{Index}
 use Rattle.products.specs.declared.templates.Index.the-variants.{At, Absent}
+use Rattle.products.specs.declared.templates.TimeOctets.the-variants.{Four}
+use Rattle.products.specs.declared.templates.TemplateReading.{TemplateReading}
 use Rattle.products.specs.declared.templates.Offsets.{Offsets}
 
 -- the mark
@@ -29,18 +31,20 @@ none = row no no no
 unfoldable pub column : ℕ → Index
 column octet = pick (eqb octet no) Absent (At octet)
 
--- what a row says
+-- what a row says: a template as the crate has it, with a time of four octets
 unfoldable pub columns : ℕ → Offsets
 columns r =
     record {
       process = column (r % 256);
       time = column (r / 256 % 256);
+      width = Four;
       surfaces = column (r / 65536);
     }
 
--- where a template holds what by lent rows: what its row says; behind the last there is no index
-unfoldable pub offsetsBy : List ℕ → ℕ → Offsets
-offsetsBy lent template = columns (getD lent template none)
+-- where a template holds what by lent rows: what a reading makes of its row, and behind the last of
+-- a row without any index
+unfoldable pub offsetsBy : List ℕ → TemplateReading → ℕ → Offsets
+offsetsBy lent reading template = byReading reading template (columns (getD lent template none))
 
 -- the rows of the templates 0 to 1101
 unfoldable pub rows : List ℕ
@@ -196,6 +200,6 @@ rows =
 pub record TableIsTheRanges : Type 0 where
   pub so-many : length rows ≡ 1102
   pub in-every-row : (template : ℕ) → template < 1102
-      → columns (getD rows template none) ≡ offsetsOf template
-  pub none-above : (template : ℕ) → 1101 < template → offsetsOf template ≡ columns none
+      → columns (getD rows template none) ≡ asCrate template
+  pub none-above : (template : ℕ) → 1101 < template → asCrate template ≡ columns none
   pub mark-is-none : (octet : ℕ) → column octet ≡ At no → ⊥

@@ -7,7 +7,6 @@ use mathlib.Core.List.{List, [], _∷_}
 use Rattle.products.specs.Ranges.{Range, _to_is_, lookup}
 use Rattle.products.specs.declared.templates.Index.{Index}
 use Rattle.products.specs.declared.templates.Index.the-variants.{At, Absent}
-use Rattle.products.specs.declared.templates.Offsets.{Offsets}
 
 -- WMO Code table 4.0, version 30, without reserved rows and without 65535
 unfoldable pub supportedTemplates : List (Range Bool)
@@ -115,8 +114,3 @@ surfaces =
 -- where the first surface stands, with the second behind it
 unfoldable pub surfacesIndex : ℕ → Index
 surfacesIndex n = lookup Absent n surfaces
-
--- the three of a template side by side
-unfoldable pub offsetsOf : ℕ → Offsets
-offsetsOf n =
-    record { process = processIndex n; time = timeIndex n; surfaces = surfacesIndex n }

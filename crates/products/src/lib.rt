@@ -19,6 +19,8 @@ use sections::ProdDefinition;
 pub use templates::Index;
 pub use templates::Offsets;
 pub use templates::ROWS;
+pub use templates::TemplateReading;
+pub use templates::TimeOctets;
 pub use templates::offsets_at;
 pub use templates::offsets_by;
 
@@ -98,17 +100,30 @@ fn octet_of(s: &[u8]) -> MaybeOctet
     MaybeOctet::Octet(s[0])
 }
 
-// The unit and the time at the start of these octets.
-fn time_of(s: &[u8]) -> MaybeTime
-    ensures { λ r. ⌜ r ≡ timeOf (now (s .entry)) ⌝ }
+// The unit and the time, which has so many octets, at the start of these octets.
+fn time_of(s: &[u8], width: TimeOctets) -> MaybeTime
+    ensures { λ r. ⌜ r ≡ timeOf width (now (s .entry)) ⌝ }
 {
-    if s.len() < 5 {
-        return MaybeTime::NoTime;
+    match width {
+        TimeOctets::Two => {
+            if s.len() < 3 {
+                return MaybeTime::NoTime;
+            }
+            MaybeTime::Time(ForecastTime {
+                unit: s[0],
+                time: be16([s[1], s[2]]) as u32,
+            })
+        }
+        TimeOctets::Four => {
+            if s.len() < 5 {
+                return MaybeTime::NoTime;
+            }
+            MaybeTime::Time(ForecastTime {
+                unit: s[0],
+                time: be32([s[1], s[2], s[3], s[4]]),
+            })
+        }
     }
-    MaybeTime::Time(ForecastTime {
-        unit: s[0],
-        time: be32([s[1], s[2], s[3], s[4]]),
-    })
 }
 
 // The surface at the start of these octets.
@@ -169,14 +184,14 @@ fn octet_at(payload: &[u8], index: Index) -> MaybeOctet
     octet_of(from(from(payload, TEMPLATE), at))
 }
 
-// The time at an index of the payload's template.
-fn time_at(payload: &[u8], index: Index) -> MaybeTime
-    ensures { λ r. ⌜ r ≡ byIndex NoTime timeOf (now (payload .entry)) index ⌝ }
+// The time, which has so many octets, at an index of the payload's template.
+fn time_at(payload: &[u8], index: Index, width: TimeOctets) -> MaybeTime
+    ensures { λ r. ⌜ r ≡ byIndex NoTime (timeOf width) (now (payload .entry)) index ⌝ }
 {
     let Index::At(at) = index else {
         return MaybeTime::NoTime;
     };
-    time_of(from(from(payload, TEMPLATE), at))
+    time_of(from(from(payload, TEMPLATE), at), width)
 }
 
 // The surfaces at an index of the payload's template.
@@ -189,12 +204,12 @@ fn surfaces_at(payload: &[u8], index: Index) -> MaybeSurfaces
     surfaces_of(from(from(payload, TEMPLATE), at))
 }
 
-// Category, number, generating process, time and surfaces of a payload of section 4, by a lent
-// table of templates: each is none if the template is unsupported, has no index for it, or the
-// payload ends too soon; both surfaces or none. The template is judged and its row looked up once;
-// each field is then there or none by itself.
-pub fn product_by(rows: &[u32], payload: &[u8]) -> Product
-    ensures { λ r. ⌜ r ≡ productBy (now (rows .entry)) (now (payload .entry)) ⌝ }
+// Category, number, generating process, time and surfaces of a payload of section 4, by a reading of
+// a lent table of templates: each is none if the template is unsupported, has no index for it, or
+// the payload ends too soon; both surfaces or none. The template is judged and its row looked up
+// once; each field is then there or none by itself.
+pub fn product_by(rows: &[u32], reading: TemplateReading, payload: &[u8]) -> Product
+    ensures { λ r. ⌜ r ≡ productBy (now (rows .entry)) reading (now (payload .entry)) ⌝ }
 {
     let Supported::Template(template) = supported_of(payload) else {
         return Product {
@@ -207,24 +222,25 @@ pub fn product_by(rows: &[u32], payload: &[u8]) -> Product
     };
     let category = octet_at(payload, Index::At(CATEGORY));
     let number = octet_at(payload, Index::At(PARAMETER));
-    let offsets = offsets_by(rows, template);
+    let offsets = offsets_by(rows, reading, template);
     let process = offsets.process;
     let time = offsets.time;
+    let width = offsets.width;
     let surfaces = offsets.surfaces;
     Product {
         category,
         number,
         process: octet_at(payload, process),
-        time: time_at(payload, time),
+        time: time_at(payload, time, width),
         surfaces: surfaces_at(payload, surfaces),
     }
 }
 
-// Category, number, generating process, time and surfaces of a payload of section 4, by the table
-// `ROWS`. Each call lays that table out anew: whoever asks for many payloads borrows it once and
-// lends it to `product_by`.
-pub fn product_of(payload: &[u8]) -> Product
-    ensures { λ r. ⌜ r ≡ productOf (now (payload .entry)) ⌝ }
+// Category, number, generating process, time and surfaces of a payload of section 4, by a reading of
+// the table `ROWS`. Each call lays that table out anew: whoever asks for many payloads borrows it
+// once and lends it to `product_by`.
+pub fn product_of(reading: TemplateReading, payload: &[u8]) -> Product
+    ensures { λ r. ⌜ r ≡ productOf reading (now (payload .entry)) ⌝ }
 {
-    product_by(&ROWS, payload)
+    product_by(&ROWS, reading, payload)
 }

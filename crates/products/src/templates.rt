@@ -1,8 +1,12 @@
 // Product definition templates (section 4): the supported numbers, and where a template holds its
-// generating process, its time and its surfaces, by one table with a row for each template.
+// generating process, its time and its surfaces, by one table with a row for each template, and by
+// what the Manual has otherwise.
 ghost use mathlib.Core.Path.{_≡_};
-ghost use Rattle.products.specs.Templates.{isSupported, offsetsOf};
-ghost use Rattle.products.specs.Rows.{column, offsetsBy};
+ghost use lib.ListN.{getD};
+ghost use Rattle.products.specs.Templates.{isSupported};
+ghost use Rattle.products.specs.Readings.{byReading, offsetsOf};
+ghost use Rattle.products.specs.Rows.{none, column, columns, offsetsBy};
+ghost use Rattle.products.specs.declared.templates.TemplateReading.the-variants.{ByManual};
 
 // An octet of a template, counted from the template's first one.
 pub enum Index {
@@ -10,11 +14,25 @@ pub enum Index {
     Absent,
 }
 
+// By whom templates are read (document 02, Ticket 6): as the crate and document 01 do, or by the
+// Manual. They differ in the time of 4.44 and in the generating process of 4.47. A caller names one.
+pub enum TemplateReading {
+    AsCrate,
+    ByManual,
+}
+
+// How many octets a time has behind its unit.
+pub enum TimeOctets {
+    Two,
+    Four,
+}
+
 // Where a template holds what a product is asked for: the type of generating process, the unit of
-// time with the time behind it, the first surface with the second behind it.
+// time with the time, so many octets wide, behind it, the first surface with the second behind it.
 pub struct Offsets {
     pub process: Index,
     pub time: Index,
+    pub width: TimeOctets,
     pub surfaces: Index,
 }
 
@@ -50,16 +68,16 @@ fn column_of(octet: u32) -> Index
     Index::At(octet as usize)
 }
 
-// Where a template of this number, supported or not, holds its generating process, its time and
-// its surfaces, by a lent table: what its row says. A template behind the last row has no index.
-pub fn offsets_by(rows: &[u32], template: u16) -> Offsets
-    ensures { λ r. ⌜ r ≡ offsetsBy (now (rows .entry)) template ⌝ }
+// What a row says of its template, as the crate has it. A template behind the last row has no index.
+fn row_of(rows: &[u32], template: u16) -> Offsets
+    ensures { λ r. ⌜ r ≡ columns (getD (now (rows .entry)) template none) ⌝ }
 {
     let at = template as usize;
     if rows.len() <= at {
         return Offsets {
             process: Index::Absent,
             time: Index::Absent,
+            width: TimeOctets::Four,
             surfaces: Index::Absent,
         };
     }
@@ -67,16 +85,48 @@ pub fn offsets_by(rows: &[u32], template: u16) -> Offsets
     Offsets {
         process: column_of(row % COLUMN),
         time: column_of(row / TIME % COLUMN),
+        width: TimeOctets::Four,
         surfaces: column_of(row / SURFACES),
     }
 }
 
-// Where a template of this number, supported or not, holds them by the table `ROWS`: what document
-// 01's ranges say of it.
-pub fn offsets_at(template: u16) -> Offsets
-    ensures { λ r. ⌜ r ≡ offsetsOf template ⌝ }
+// What the Manual has otherwise than the crate (document 02, Ticket 6): the time of 4.44 is the
+// octets 32 and 33, and the generating process of 4.47 is octet 25, as in 4.44 to 4.46.
+fn by_manual(template: u16, as_crate: Offsets) -> Offsets
+    ensures { λ r. ⌜ r ≡ byReading ByManual template as_crate ⌝ }
 {
-    offsets_by(&ROWS, template)
+    match template {
+        44 => Offsets {
+            width: TimeOctets::Two,
+            ..as_crate
+        },
+        47 => Offsets {
+            process: Index::At(15),
+            ..as_crate
+        },
+        _ => as_crate,
+    }
+}
+
+// Where a template of this number, supported or not, holds its generating process, its time and
+// its surfaces, by a reading, in a lent table of any rows. What the Manual has otherwise it has
+// whatever the rows say, also behind the last.
+pub fn offsets_by(rows: &[u32], reading: TemplateReading, template: u16) -> Offsets
+    ensures { λ r. ⌜ r ≡ offsetsBy (now (rows .entry)) reading template ⌝ }
+{
+    let as_crate = row_of(rows, template);
+    match reading {
+        TemplateReading::AsCrate => as_crate,
+        TemplateReading::ByManual => by_manual(template, as_crate),
+    }
+}
+
+// Where a template of this number, supported or not, holds them by a reading, in the table `ROWS`:
+// what document 01's ranges say of it, and the Manual's corrections if it is read by the Manual.
+pub fn offsets_at(reading: TemplateReading, template: u16) -> Offsets
+    ensures { λ r. ⌜ r ≡ offsetsOf reading template ⌝ }
+{
+    offsets_by(&ROWS, reading, template)
 }
 
 // A row has three columns, an octet each. What a column counts in its row:

@@ -32,6 +32,7 @@ use Rattle.inventory.proofs as inventory
 use Rattle.lists.proofs as lists
 use Rattle.requests.proofs as requests
 use Rattle.buttresk.proofs as buttresk
+use Rattle.products.proofs.templates.TemplateReading as TemplateReading
 use Rattle.framing.proofs.read.Cursor as Cursor
 use Rattle.framing.proofs.read.Section as Section
 use Rattle.order.proofs.Order as Order
@@ -97,6 +98,10 @@ plain-Section = record { pure = λ d. Section.Laws.the-field-plain (Section.the-
 plain-Standing : Plain Standing.the-row
 plain-Standing = record { pure = λ d. Standing.Laws.the-field-plain (Standing.the-type .to d) }
 
+plain-TemplateReading : Plain TemplateReading.the-row
+plain-TemplateReading =
+    record { pure = λ d. TemplateReading.Laws.the-field-plain (TemplateReading.the-type .to d) }
+
 plain-Progress : Plain Progress.the-row
 plain-Progress = record { pure = λ d. Progress.Laws.the-field-plain (Progress.the-type .to d) }
 
@@ -143,16 +148,21 @@ module _ {M : Type 1} where
     ReprDefinition-from-payload = by 1 (to-read 0 tt (number w8) ∷ []) (λ n. refl) (λ 𝓤 H A content run κs a. tt) ReprDefinition.from_payload.Met.met (λ n r e. id⊢ (n .memory) _);
     BitMap-from-payload = by 1 (to-read 0 tt (number w8) ∷ []) (λ n. refl) (λ 𝓤 H A content run κs a. tt) BitMap.from_payload.Met.met (λ n r e. id⊢ (n .memory) _);
     products-offsets-at =
-        by 0 (by-value (plain-number w16) ∷ []) (λ n. refl) (λ 𝓤 H A content run κs a. tt)
-        products.offsets_at.Met.met (λ n r e. id⊢ (n .memory) _);
+        by 0 (by-value plain-TemplateReading ∷ by-value (plain-number w16) ∷ []) (λ n. refl)
+        (λ 𝓤 H A content run κs a. tt) products.offsets_at.Met.met (λ n r e. id⊢ (n .memory) _);
     products-offsets-by =
-        by 1 (to-read 0 tt (number w32) ∷ by-value (plain-number w16) ∷ []) (λ n. refl)
-        (λ 𝓤 H A content run κs a. tt) products.offsets_by.Met.met
+        by 1
+        (to-read 0 tt (number w32) ∷ by-value plain-TemplateReading ∷ by-value (plain-number w16) ∷ [])
+        (λ n. refl) (λ 𝓤 H A content run κs a. tt) products.offsets_by.Met.met
         (λ n r e. id⊢ (n .memory) _);
     products-product-by =
-        by 2 (to-read 0 tt (number w32) ∷ to-read 1 tt (number w8) ∷ []) (λ n. refl)
-        (λ 𝓤 H A content run κs a. tt) products.product_by.Met.met (λ n r e. id⊢ (n .memory) _);
-    products-product-of = by 1 (to-read 0 tt (number w8) ∷ []) (λ n. refl) (λ 𝓤 H A content run κs a. tt) products.product_of.Met.met (λ n r e. id⊢ (n .memory) _);
+        by 2
+        (to-read 0 tt (number w32) ∷ by-value plain-TemplateReading ∷ to-read 1 tt (number w8) ∷ [])
+        (λ n. refl) (λ 𝓤 H A content run κs a. tt) products.product_by.Met.met
+        (λ n r e. id⊢ (n .memory) _);
+    products-product-of =
+        by 1 (by-value plain-TemplateReading ∷ to-read 0 tt (number w8) ∷ []) (λ n. refl)
+        (λ 𝓤 H A content run κs a. tt) products.product_of.Met.met (λ n r e. id⊢ (n .memory) _);
     framing-framed-at = by 1 (to-read 0 tt (number w8) ∷ by-value plain-Cursor ∷ []) (λ n. refl) (λ 𝓤 H A content run κs a. tt) framing.framed_at.Met.met (λ n r e. id⊢ (n .memory) _);
     framing-next-start = by 1 (to-read 0 tt (number w8) ∷ by-value (plain-number w64) ∷ []) (λ n. refl) (λ 𝓤 H A content run κs a. tt) framing.next_start.Met.met (λ n r e. fact-mono (n .memory) _ _ (next-start-is (now (n .arguments .0)) (n .arguments .1 .0) r));
     order-judge = by 0 (by-value plain-Order ∷ by-value (plain-number w64) ∷ []) (λ n. refl) (λ 𝓤 H A content run κs a. tt) order.judge.Met.met (λ n r e. id⊢ (n .memory) _);
@@ -204,7 +214,10 @@ module _ {M : Type 1} where
     buttresk-indicator = by 1 (to-read 0 tt (number w8) ∷ []) (λ n. refl) (λ 𝓤 H A content run κs a. tt) buttresk.buttresk_indicator.Met.met (λ n r e. id⊢ (n .memory) _);
     buttresk-identification = by 1 (to-read 0 tt (number w8) ∷ []) (λ n. refl) (λ 𝓤 H A content run κs a. tt) buttresk.buttresk_identification.Met.met (λ n r e. id⊢ (n .memory) _);
     buttresk-grid-definition = by 1 (to-read 0 tt (number w8) ∷ []) (λ n. refl) (λ 𝓤 H A content run κs a. tt) buttresk.buttresk_grid_definition.Met.met (λ n r e. id⊢ (n .memory) _);
-    buttresk-product-definition = by 1 (to-read 0 tt (number w8) ∷ []) (λ n. refl) (λ 𝓤 H A content run κs a. tt) buttresk.buttresk_product_definition.Met.met (λ n r e. id⊢ (n .memory) _);
+    buttresk-product-definition =
+        by 1 (by-value (plain-number w64) ∷ to-read 0 tt (number w8) ∷ []) (λ n. refl)
+        (λ 𝓤 H A content run κs a. tt) buttresk.buttresk_product_definition.Met.met
+        (λ n r e. id⊢ (n .memory) _);
     buttresk-representation = by 1 (to-read 0 tt (number w8) ∷ []) (λ n. refl) (λ 𝓤 H A content run κs a. tt) buttresk.buttresk_representation.Met.met (λ n r e. id⊢ (n .memory) _);
     buttresk-bit-map = by 1 (to-read 0 tt (number w8) ∷ []) (λ n. refl) (λ 𝓤 H A content run κs a. tt) buttresk.buttresk_bit_map.Met.met (λ n r e. id⊢ (n .memory) _);
   }

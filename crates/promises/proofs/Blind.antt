@@ -23,9 +23,9 @@ use Rattle.blindness.specs.Blindness.{One, Public}
 use Rattle.blindness.proofs.Spared.{terms-pass}
 use Rattle.blindness.proofs.Theorems.{blindness, public-copies}
 use Rattle.buttresk.specs.Fields as fields
-use Rattle.buttresk.specs.Product.{definitionFields, octetField, timeField, surfacesField, productFields}
+use Rattle.buttresk.specs.Product.{readingOf, fieldsBy, productFields}
 use Rattle.walk_laws.proofs.WholeWalk.{is-clean}
-use Rattle.promises.specs.CFace.{FaceFields, indicatorFace, identificationFace, gridFace, productFace, representationFace, bitMapFace, noFace, faceOf}
+use Rattle.promises.specs.CFace.{FaceFields, indicatorFace, identificationFace, gridFace, productFace, representationFace, bitMapFace, noFace, faceOf, facesOf}
 
 -- two files that differ in values octets only are one to every reader
 pub one : (f g : List ℕ) → Alike licensed f g → One licensed f g
@@ -45,48 +45,41 @@ unfolding pulled
 equal-pulls f g d call =
     sequence f call ∙ ap (λ (t : Told). handsOut 0 (t .sections) (t .outcome) call) (one f g d .one-walk unlimited) ∙ sym (sequence g call)
 
--- the C face's fields are the library's, as numbers
-abbrev shown : SectionFields → FaceFields
-shown (ofIndicator i) = indicatorFace (fields.indicatorFields i)
-shown (ofIdentification i) = identificationFace (fields.identificationFields i)
-shown (ofGrid g) = gridFace (fields.gridFields g)
-shown (ofProduct p) =
-    let definition = definitionFields (p .definition) in
-    productFace
-    (record {
-      known = definition .known;
-      coordinates = definition .coordinates;
-      template = definition .template;
-      category = octetField (p .product .category);
-      number = octetField (p .product .number);
-      process = octetField (p .product .process);
-      time = timeField (p .product .time);
-      surfaces = surfacesField (p .product .surfaces);
-    })
-shown (ofRepresentation r) = representationFace (fields.representationFields r)
-shown (ofBitMap b) = bitMapFace (fields.bitMapFields b)
-shown ofNone = noFace
+-- the C face's fields are the library's, as numbers, by whatever reading
+abbrev shown : ℕ → SectionFields → FaceFields
+shown reading (ofIndicator i) = indicatorFace (fields.indicatorFields i)
+shown reading (ofIdentification i) = identificationFace (fields.identificationFields i)
+shown reading (ofGrid g) = gridFace (fields.gridFields g)
+shown reading (ofProduct p) =
+    productFace (fieldsBy (readingOf reading) (p .definition) (p .product))
+shown reading (ofRepresentation r) = representationFace (fields.representationFields r)
+shown reading (ofBitMap b) = bitMapFace (fields.bitMapFields b)
+shown reading ofNone = noFace
 
--- by a test, on either side
-shown-pick : (t : Bool) (a b : SectionFields) (c d : FaceFields) → c ≡ shown a → d ≡ shown b → pick t c d ≡ shown (pick t a b)
-shown-pick true a b c d e f = e
-shown-pick false a b c d e f = f
+module _ (reading : ℕ) where
+  -- by a test, on either side
+  shown-pick : (t : Bool) (a b : SectionFields) (c d : FaceFields)
+      → c ≡ shown reading a → d ≡ shown reading b → pick t c d ≡ shown reading (pick t a b)
+  shown-pick true a b c d e f = e
+  shown-pick false a b c d e f = f
 
-shows : (file : List ℕ) (s : Section) → faceOf file s ≡ shown (fieldsOf file s)
-unfolding faceOf fieldsOf productSectionOf productFields
-shows file s =
-    shown-pick (eqb (s .number) 0) _ _ _ _ refl (shown-pick (eqb (s .number) 1) _ _ _ _ refl
-    (shown-pick (eqb (s .number) 3) _ _ _ _ refl (shown-pick (eqb (s .number) 4) _ _ _ _ refl
-    (shown-pick (eqb (s .number) 5) _ _ _ _ refl (shown-pick (eqb (s .number) 6) _ _ _ _ refl refl)))))
+  shows : (file : List ℕ) (s : Section) → faceOf reading file s ≡ shown reading (fieldsOf file s)
+  unfolding faceOf fieldsOf productSectionOf productFields
+  shows file s =
+      shown-pick (eqb (s .number) 0) _ _ _ _ refl (shown-pick (eqb (s .number) 1) _ _ _ _ refl
+      (shown-pick (eqb (s .number) 3) _ _ _ _ refl (shown-pick (eqb (s .number) 4) _ _ _ _ refl
+      (shown-pick (eqb (s .number) 5) _ _ _ _ refl
+      (shown-pick (eqb (s .number) 6) _ _ _ _ refl refl)))))
 
-all-show : (file : List ℕ) (sections : List Section) → map (faceOf file) sections ≡ map shown (decoded file sections)
-unfolding decoded
-all-show file [] = refl
-all-show file (s ∷ more) = rw (shows file s, all-show file more) refl
+  all-show : (file : List ℕ) (sections : List Section)
+      → map (faceOf reading file) sections ≡ map (shown reading) (decoded file sections)
+  unfolding decoded
+  all-show file [] = refl
+  all-show file (s ∷ more) = rw (shows file s, all-show file more) refl
 
-pub equal-faces : (f g : List ℕ) → Alike licensed f g
-    → map (faceOf f) (walked unlimited f .sections) ≡ map (faceOf g) (walked unlimited g .sections)
-equal-faces f g d =
-    all-show f (walked unlimited f .sections)
-    ∙ ap (map shown) (one f g d .one-decoding unlimited)
-    ∙ sym (all-show g (walked unlimited g .sections))
+pub equal-faces : (f g : List ℕ) → Alike licensed f g → (reading : ℕ)
+    → facesOf reading f ≡ facesOf reading g
+equal-faces f g d reading =
+    all-show reading f (walked unlimited f .sections)
+    ∙ ap (map (shown reading)) (one f g d .one-decoding unlimited)
+    ∙ sym (all-show reading g (walked unlimited g .sections))

@@ -1,6 +1,7 @@
 -- The three demands of specs/Promises.antt are kept.
 use mathlib.Core.Path.{sym, ap, _∙_}
 use Rattle.products.proofs.Rows.{table-is-the-ranges}
+use Rattle.products.proofs.Readings.{where-readings-differ}
 use Rattle.index.specs.Numbers.{endOf}
 use Rattle.index.specs.Bounds.{unlimited}
 use Rattle.index.specs.Walk.{Told, walked}
@@ -61,6 +62,7 @@ demand-2 =
       starts = where-messages-start;
       stands = where-messages-stand;
       offsets = table-is-the-ranges;
+      readings = where-readings-differ;
       starred = starred-hold;
       others = others-hold;
       each-refusal = witnesses-hold;

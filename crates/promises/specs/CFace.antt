@@ -1,6 +1,6 @@
 -- The decoded fields of a listed section as the C face gives them: as numbers, with `known` of 1 or
--- 0 beside each that can be none (01, "Fields").
-use mathlib.Core.List.{List}
+-- 0 beside each that can be none (01, "Fields"); those of section 4 by the reading of a number.
+use mathlib.Core.List.{List, map}
 use Prim.Native.Nat.{ℕ}
 use lib.Dec.{eqb}
 use Rattle.octets.specs.Words.{pick}
@@ -10,6 +10,8 @@ use Rattle.sections.specs.GridDefinition.{gridDefinitionOf}
 use Rattle.sections.specs.ReprDefinition.{reprDefinitionOf}
 use Rattle.sections.specs.BitMap.{bitMapOf}
 use Rattle.framing.specs.declared.read.Section.{Section}
+use Rattle.index.specs.Bounds.{unlimited}
+use Rattle.index.specs.Walk.{walked}
 use Rattle.index.specs.Decoded.{ownOctets, payloadOf}
 use Rattle.buttresk.specs.Fields as fields
 use Rattle.buttresk.specs.Product.{productFields}
@@ -31,16 +33,20 @@ pub data FaceFields : Type 0 where
   noFace : FaceFields
 
 -- by its number, of its octets or of those behind its header
-unfoldable pub faceOf : List ℕ → Section → FaceFields
-faceOf file s =
+unfoldable pub faceOf : ℕ → List ℕ → Section → FaceFields
+faceOf reading file s =
     let payload = payloadOf file s in
     pick (eqb (s .number) 0)
     (indicatorFace (fields.indicatorFields (indicatorOf (ownOctets file s))))
     (pick (eqb (s .number) 1)
     (identificationFace (fields.identificationFields (identificationOf payload)))
     (pick (eqb (s .number) 3) (gridFace (fields.gridFields (gridDefinitionOf payload)))
-    (pick (eqb (s .number) 4) (productFace (productFields payload))
+    (pick (eqb (s .number) 4) (productFace (productFields reading payload))
     (pick (eqb (s .number) 5)
     (representationFace (fields.representationFields (reprDefinitionOf payload)))
     (pick (eqb (s .number) 6) (bitMapFace (fields.bitMapFields (bitMapOf payload)))
     noFace)))))
+
+-- of every section of a file, by the reading of a number, whether it names one or not
+abbrev pub facesOf : ℕ → List ℕ → List FaceFields
+facesOf reading file = map (faceOf reading file) (walked unlimited file .sections)

@@ -1,9 +1,10 @@
 -- Buttresk's three demands in their own words, and what is proved. docs/ARCHITECTURE.md leads here.
 use Prim.Native.Nat.{ℕ, _≤_}
 use mathlib.Core.Path.{_≡_}
-use mathlib.Core.List.{List, map}
+use mathlib.Core.List.{List}
 use lib.ListN.{length, take}
 use Rattle.products.specs.Rows.{TableIsTheRanges}
+use Rattle.products.specs.Agreement.{WhereReadingsDiffer}
 use Rattle.index.specs.Numbers.{endOf}
 use Rattle.index.specs.Bounds.{unlimited}
 use Rattle.index.specs.Walk.{walked}
@@ -32,7 +33,7 @@ use Rattle.promises.specs.Handed.{PullHandsOut}
 use Rattle.promises.specs.CopyGiven.{CopyRefusedExactlyWhen, CopyWrittenExactlyWhen}
 use Rattle.promises.specs.PlanAnswered as plan
 use Rattle.promises.specs.InventoryAnswered.{TextInventory}
-use Rattle.promises.specs.CFace.{faceOf}
+use Rattle.promises.specs.CFace.{facesOf}
 
 -- 1. Every file, plan and lent table, of any content, gets an answer, and the call ends. Bad input
 -- is refused by 01's number, with its place; what was stored before stands, all else lent is
@@ -64,6 +65,7 @@ pub record Demand2 : Type 0 where
   pub starts : WhereMessagesStart  -- 02, Ticket 11: with 0 in every file; 11 is given inside alone
   pub stands : WhereMessagesStand  -- 02, Ticket 7: where its section 0 says, to its section 8's end
   pub offsets : TableIsTheRanges  -- 02, Ticket 4: 1,102 rows as 01's ranges say; no index above
+  pub readings : WhereReadingsDiffer  -- 02, Ticket 6: in the time of 44 and the process of 47 alone
   pub starred : samples.StarredHold  -- document 01's samples, and walks that give each refusal
   pub others : samples.OthersHold
   pub each-refusal : witnesses.WitnessesHold
@@ -100,13 +102,11 @@ pub record Demand2 : Type 0 where
 -- answer; on a clean walk the same public copy, which walks to that answer and differs from its
 -- file only in values octets and octets outside every message.
 pub record Demand3 : Type 0 where
-  -- sections, lines, counts, end with any tables, decoded fields, inventory, public copy, calls
+  -- one walk, fields by both readings, inventory, copy; so walk in numbers, C face, pull reader
   pub equal-files : (f g : List ℕ) → Alike licensed f g → One licensed f g
-  -- so do the walk in numbers, the C face's fields and the pull reader
   pub equal-numbers : (f g : List ℕ) → Alike licensed f g → (rows lines : List ℕ)
       → walkNumbers f rows lines ≡ walkNumbers g rows lines
-  pub equal-faces : (f g : List ℕ) → Alike licensed f g → map (faceOf f)
-      (walked unlimited f .sections) ≡ map (faceOf g) (walked unlimited g .sections)
+  pub equal-faces : (f g : List ℕ) → Alike licensed f g → (r : ℕ) → facesOf r f ≡ facesOf r g
   pub equal-pulls : (f g : List ℕ) → Alike licensed f g → (call : ℕ)
       → pullAt f (afterCalls call f) .answer ≡ pullAt g (afterCalls call g) .answer
   -- on a clean walk one copy in any two destinations that hold the file, and it is as good as it

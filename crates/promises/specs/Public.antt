@@ -32,6 +32,7 @@ use Rattle.inventory.proofs as inventory
 use Rattle.lists.proofs as lists
 use Rattle.requests.proofs as requests
 use Rattle.buttresk.proofs as buttresk
+use Rattle.products.proofs.templates.TemplateReading as TemplateReading
 use Rattle.framing.proofs.read.Cursor as Cursor
 use Rattle.framing.proofs.read.Section as Section
 use Rattle.order.proofs.Order as Order
@@ -58,7 +59,7 @@ use Rattle.sections.specs.GridDefinition.{gridDefinitionOf}
 use Rattle.sections.specs.ProdDefinition.{prodDefinitionOf}
 use Rattle.sections.specs.ReprDefinition.{reprDefinitionOf}
 use Rattle.sections.specs.BitMap.{bitMapOf}
-use Rattle.products.specs.Templates.{offsetsOf}
+use Rattle.products.specs.Readings.{offsetsOf}
 use Rattle.products.specs.Rows.{offsetsBy}
 use Rattle.products.specs.Products.{productOf, productBy}
 use Rattle.framing.specs.Framing.{framed, readAt}
@@ -137,16 +138,22 @@ pub record PublicFunctions (M : Type 1) : Type 2 where
       (λ (payload, _). reprDefinitionOf payload)
   pub BitMap-from-payload : Gives M 1 (lent 0 tt u8 ∷ []) BitMap.from_payload.clauses
       BitMap.from_payload.Symbol.routine (λ (payload, _). bitMapOf payload)
-  -- products: where a template holds what, and the product fields, by our table and by a lent one
-  pub products-offsets-at : Gives M 0 (value u16 ∷ []) products.offsets_at.clauses
-      products.offsets_at.Symbol.routine (λ (template, _). offsetsOf template)
-  pub products-offsets-by : Gives M 1 (lent 0 tt u32 ∷ value u16 ∷ []) products.offsets_by.clauses
-      products.offsets_by.Symbol.routine (λ (rows, (template, _)). offsetsBy rows template)
-  pub products-product-of : Gives M 1 (lent 0 tt u8 ∷ []) products.product_of.clauses
-      products.product_of.Symbol.routine (λ (payload, _). productOf payload)
-  pub products-product-by : Gives M 2 (lent 0 tt u32 ∷ lent 1 tt u8 ∷ [])
+  -- products: where a template holds what, and the product fields, by a reading of our table and of
+  -- a lent one
+  pub products-offsets-at : Gives M 0 (value TemplateReading.the-row ∷ value u16 ∷ [])
+      products.offsets_at.clauses products.offsets_at.Symbol.routine
+      (λ (reading, (template, _)). offsetsOf reading template)
+  pub products-offsets-by :
+      Gives M 1 (lent 0 tt u32 ∷ value TemplateReading.the-row ∷ value u16 ∷ [])
+      products.offsets_by.clauses products.offsets_by.Symbol.routine
+      (λ (rows, (reading, (template, _))). offsetsBy rows reading template)
+  pub products-product-of : Gives M 1 (value TemplateReading.the-row ∷ lent 0 tt u8 ∷ [])
+      products.product_of.clauses products.product_of.Symbol.routine
+      (λ (reading, (payload, _)). productOf reading payload)
+  pub products-product-by :
+      Gives M 2 (lent 0 tt u32 ∷ value TemplateReading.the-row ∷ lent 1 tt u8 ∷ [])
       products.product_by.clauses products.product_by.Symbol.routine
-      (λ (rows, (payload, _)). productBy rows payload)
+      (λ (rows, (reading, (payload, _))). productBy rows reading payload)
   -- framing: what stands at a cursor, and where the next message starts
   pub framing-framed-at : Gives M 1 (lent 0 tt u8 ∷ value Cursor.the-row ∷ [])
       framing.framed_at.clauses framing.framed_at.Symbol.routine
@@ -306,9 +313,10 @@ pub record PublicFunctions (M : Type 1) : Type 2 where
   pub buttresk-grid-definition : Gives M 1 (lent 0 tt u8 ∷ [])
       buttresk.buttresk_grid_definition.clauses buttresk.buttresk_grid_definition.Symbol.routine
       (λ (payload, _). gridFields (gridDefinitionOf payload))
-  pub buttresk-product-definition : Gives M 1 (lent 0 tt u8 ∷ [])
+  pub buttresk-product-definition : Gives M 1 (value u64 ∷ lent 0 tt u8 ∷ [])
       buttresk.buttresk_product_definition.clauses
-      buttresk.buttresk_product_definition.Symbol.routine (λ (payload, _). productFields payload)
+      buttresk.buttresk_product_definition.Symbol.routine
+      (λ (reading, (payload, _)). productFields reading payload)
   pub buttresk-representation : Gives M 1 (lent 0 tt u8 ∷ [])
       buttresk.buttresk_representation.clauses buttresk.buttresk_representation.Symbol.routine
       (λ (payload, _). representationFields (reprDefinitionOf payload))

@@ -13,14 +13,14 @@ use Rattle.octets.specs.Words.{pick}
 use Rattle.octets.specs.BigEndian.{beAt}
 use Rattle.requests.specs.Requests.{walkRequestAt, pullRequestAt, intoRequestAt}
 use Rattle.requests.specs.Requests.{writeRequestAt, fieldsRequestAt, signedRequestAt, listRequestAt}
-use Rattle.requests.specs.Requests.{offsetsRequestAt}
+use Rattle.requests.specs.Requests.{readBy, offsetsRequestAt}
 use Rattle.requests.specs.declared.Writing.{Writing}
 use Rattle.requests.specs.declared.Request.{Request}
 use Rattle.requests.specs.declared.Request.the-variants.{Walk, Pull, Copy, Write}
 use Rattle.requests.specs.declared.Request.the-variants.{Fields, Signed, Inventory}
 use Rattle.requests.specs.declared.Request.the-variants.{Offsets, Bad}
 use Rattle.requests.specs.declared.Request.the-variants as request
-use Rattle.requests.proofs.Stands.{Stands, Roomed}
+use Rattle.requests.proofs.Stands.{Stands, Roomed, Goes}
 
 -- what holds of both answers of a test, each where the test says so, holds of the one picked
 pub pick-by : {A : Type 0} (P : A → Type 0) (t : Bool) {a b : A} → (t ≡ true → P a) → (t ≡ false → P b) → P (pick t a b)
@@ -212,19 +212,21 @@ module _ (s : List ℕ) (at : ℕ) where
   unfolding offsetsRequestAt
   offsets-cut h = simp (lt-ltb _ _ h)
 
-  pub offsets-of-another-reading : at + 4 ≤ length s → (getD s (at + 1) 0 ≡ 0 → ⊥)
-      → Bad ≡ offsetsRequestAt s at
+  pub offsets-read : (number template : ℕ) → number ≡ getD s (at + 1) 0
+      → template ≡ beAt s (at + 2) 2 → at + 4 ≤ length s
+      → (readBy number λ reading. Offsets reading template (at + 4)) ≡ offsetsRequestAt s at
   unfolding offsetsRequestAt
-  offsets-of-another-reading h o = simp (le-ltb _ _ h, ne-eqb _ _ o)
+  offsets-read number template k e h = simp (← k, ← e, le-ltb _ _ h)
 
-  pub offsets-whole : (template : ℕ) → template ≡ beAt s (at + 2) 2 → at + 4 ≤ length s
-      → getD s (at + 1) 0 ≡ 0 → Offsets template (at + 4) ≡ offsetsRequestAt s at
+  pub offsets-of-another-reading : (getD s (at + 1) 0 ≡ 0 → ⊥) → (getD s (at + 1) 0 ≡ 1 → ⊥)
+      → at + 4 ≤ length s → Bad ≡ offsetsRequestAt s at
   unfolding offsetsRequestAt
-  offsets-whole template e h k = simp (← e, le-ltb _ _ h, k)
+  offsets-of-another-reading k m h = simp (le-ltb _ _ h, ne-eqb _ _ k, ne-eqb _ _ m)
 
   pub offsets-stands : Stands s at (offsetsRequestAt s at)
   unfolding offsetsRequestAt
   offsets-stands =
       pick-by (Stands s at) (ltb (length s) (at + 4)) (λ e. tt) (λ e.
-      pick-by (Stands s at) (eqb (getD s (at + 1) 0) 0)
-      (λ f. record { later = omega arith; inside = ltb-false _ _ e }) (λ f. tt))
+      let goes : Goes s at (at + 4) = record { later = omega arith; inside = ltb-false _ _ e } in
+      pick-by (Stands s at) (eqb (getD s (at + 1) 0) 0) (λ f. goes) (λ f.
+      pick-by (Stands s at) (eqb (getD s (at + 1) 0) 1) (λ g. goes) (λ g. tt)))

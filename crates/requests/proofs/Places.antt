@@ -45,7 +45,7 @@ goes-by s at (Fields number from to) h w = record { later = omega arith; inside 
 goes-by s at (Signed from to) h w = record { later = omega arith; inside = w .within }
 goes-by s at (Inventory d from to) h w = record { later = omega arith; inside = w .octets .within }
 goes-by s at (request.List m from to) h w = record { later = omega arith; inside = w .octets .within }
-goes-by s at (Offsets template to) h w = w
+goes-by s at (Offsets reading template to) h w = w
 goes-by s at Bad h w = record { later = h; inside = omega arith }
 
 pub goes : (s : List ℕ) (at next : ℕ) → next ≡ placeAfter s (requestAt s at) → at < length s → Goes s at next

@@ -49,5 +49,5 @@ Stands s at (Fields number from to) = Inside s at from to
 Stands s at (Signed from to) = Inside s at from to
 Stands s at (Inventory d from to) = Roomed 262144 s at d from to
 Stands s at (request.List m from to) = Roomed 512 s at m from to
-Stands s at (Offsets template to) = Goes s at to
+Stands s at (Offsets reading template to) = Goes s at to
 Stands s at Bad = Unit

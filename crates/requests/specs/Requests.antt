@@ -6,6 +6,8 @@ use lib.Dec.{eqb, ltb, leb}
 use lib.ListN.{length, getD}
 use Rattle.octets.specs.Words.{pick}
 use Rattle.octets.specs.BigEndian.{beAt}
+use Rattle.products.specs.declared.templates.TemplateReading.{TemplateReading}
+use Rattle.products.specs.declared.templates.TemplateReading.the-variants.{AsCrate, ByManual}
 use Rattle.requests.specs.declared.Request.{Request}
 use Rattle.requests.specs.declared.Writing.{Writing}
 use Rattle.requests.specs.declared.Request.the-variants.{Walk, Pull, Copy, Write}
@@ -111,12 +113,17 @@ listRequestAt input at =
     let to = from + beAt input (at + 3) 4 in
     whole input to (upTo 512 m (request.List m from to))
 
--- `O`: reading (1): 0 as the crate, another is bad; template number (2)
+-- a request by the reading of a number: 0 as the crate, 1 by the Manual; by another it is bad
+abbrev pub readBy : ℕ → (TemplateReading → Request) → Request
+readBy number request =
+    pick (eqb number 0) (request AsCrate) (pick (eqb number 1) (request ByManual) Bad)
+
+-- `O`: reading (1); template number (2)
 unfoldable pub offsetsRequestAt : List ℕ → ℕ → Request
 offsetsRequestAt input at =
     let to = at + 4 in
     whole input to
-    (pick (eqb (getD input (at + 1) 0) 0) (Offsets (beAt input (at + 2) 2) to) Bad)
+    (readBy (getD input (at + 1) 0) λ reading. Offsets reading (beAt input (at + 2) 2) to)
 
 -- the request of a kind octet at `at`: 87 is `W`, 80 is `P`, 67 is `C`, 77 is `M`, 70 is `F`, 83 is
 -- `S`, 73 is `I`, 82 is `R`, 79 is `O`, another kind is bad
@@ -146,5 +153,5 @@ placeAfter input (Fields number from to) = to
 placeAfter input (Signed from to) = to
 placeAfter input (Inventory d from to) = to
 placeAfter input (request.List m from to) = to
-placeAfter input (Offsets template to) = to
+placeAfter input (Offsets reading template to) = to
 placeAfter input Bad = length input

@@ -13,6 +13,7 @@ use crate::Request;
 use crate::Writing;
 use crate::numbers::four_octets;
 use crate::numbers::two_octets;
+use products::TemplateReading;
 
 // Octets before a walked file: kind, numbers, lines, length.
 const WALK_HEAD: usize = 9;
@@ -55,8 +56,11 @@ const MOST_ROOM: u32 = 262_144;
 // The largest table that a list can ask for.
 const MOST_ENTRIES: u16 = 512;
 
-// The reading of templates that is known: as the crate.
+// The reading of templates as the crate.
 const AS_CRATE: u8 = 0;
+
+// The one by the Manual.
+const BY_MANUAL: u8 = 1;
 
 // The file of a request that is answered into a destination of so many octets.
 pub(crate) enum FileInto {
@@ -268,11 +272,19 @@ pub(crate) fn offsets_request_at(input: &[u8], at: usize) -> Request
     if input.len() - at < OFFSETS_HEAD {
         return Request::Bad;
     }
-    if input[at + 1] != AS_CRATE {
-        return Request::Bad;
-    }
-    Request::Offsets {
-        template: two_octets(input, at + 2),
-        to: at + OFFSETS_HEAD,
+    let template = two_octets(input, at + 2);
+    let to = at + OFFSETS_HEAD;
+    match input[at + 1] {
+        AS_CRATE => Request::Offsets {
+            reading: TemplateReading::AsCrate,
+            template,
+            to,
+        },
+        BY_MANUAL => Request::Offsets {
+            reading: TemplateReading::ByManual,
+            template,
+            to,
+        },
+        _ => Request::Bad,
     }
 }

@@ -14,6 +14,7 @@ use kinds::pull_request_at;
 use kinds::signed_request_at;
 use kinds::walk_request_at;
 use kinds::write_request_at;
+use products::TemplateReading;
 
 const WALK: u8 = b'W';
 
@@ -74,8 +75,9 @@ pub enum Request {
         from: usize,
         to: usize,
     },
-    // Of a template of this number, supported or not.
+    // Of a template of this number, supported or not, by a reading.
     Offsets {
+        reading: TemplateReading,
         template: u16,
         to: usize,
     },

@@ -7,15 +7,17 @@ use borrow.Author.Needs.{needs}
 use Rattle.products.specs.Rows.{offsetsBy}
 use Rattle.products.specs.Products.{
   octetOf,
-  timeOf,
-  surfacesOf,
   supportedOf,
   byIndex,
   categoryOf,
   parameterOf,
+  processAt,
+  timeAt,
+  surfacesAt,
   productBy,
 }
 use Rattle.products.specs.declared.templates.Index.the-variants.{At}
+use Rattle.products.specs.declared.templates.TemplateReading.{TemplateReading}
 use Rattle.products.specs.declared.templates.Offsets.{Offsets}
 use Rattle.products.specs.declared.MaybeOctet.{MaybeOctet}
 use Rattle.products.specs.declared.MaybeOctet.the-variants.{NoOctet}
@@ -38,24 +40,23 @@ product category number process time surfaces =
       surfaces = surfaces;
     }
 
-none : (lent s : List ℕ) → supportedOf s ≡ NoTemplate
-    → product NoOctet NoOctet NoOctet NoTime NoSurfaces ≡ productBy lent s
-unfolding productBy categoryOf parameterOf
-none lent s e = rw e
+module _ (lent : List ℕ) (reading : TemplateReading) (s : List ℕ) where
+  none : supportedOf s ≡ NoTemplate
+      → product NoOctet NoOctet NoOctet NoTime NoSurfaces ≡ productBy lent reading s
+  unfolding productBy categoryOf parameterOf
+  none e = rw e
 
-all : (lent s : List ℕ) (n : ℕ) (offsets : Offsets) (category number process : MaybeOctet)
-    (time : MaybeTime) (surfaces : MaybeSurfaces)
-    → supportedOf s ≡ Template n → offsets ≡ offsetsBy lent n
-    → category ≡ byIndex NoOctet octetOf s (At 0) → number ≡ byIndex NoOctet octetOf s (At 1)
-    → process ≡ byIndex NoOctet octetOf s (offsets .process)
-    → time ≡ byIndex NoTime timeOf s (offsets .time)
-    → surfaces ≡ byIndex NoSurfaces surfacesOf s (offsets .surfaces)
-    → product category number process time surfaces ≡ productBy lent s
-unfolding productBy categoryOf parameterOf
-all lent s n offsets category number process time surfaces e o c m p t f = rw (e, c, m, p, t, f, o)
+  all : (n : ℕ) (offsets : Offsets) (category number process : MaybeOctet) (time : MaybeTime)
+      (surfaces : MaybeSurfaces)
+      → supportedOf s ≡ Template n → offsets ≡ offsetsBy lent reading n
+      → category ≡ byIndex NoOctet octetOf s (At 0) → number ≡ byIndex NoOctet octetOf s (At 1)
+      → process ≡ processAt s offsets → time ≡ timeAt s offsets → surfaces ≡ surfacesAt s offsets
+      → product category number process time surfaces ≡ productBy lent reading s
+  unfolding productBy categoryOf parameterOf
+  all n offsets category number process time surfaces e o c m p t f = rw (e, c, m, p, t, f, o)
 
 returns : tie.Need-returns
-returns c = none _ _ (sym (c .before .before .supported-of .ensures) ∙ c .enum-told .given .1)
+returns c = none _ _ _ (sym (c .before .before .supported-of .ensures) ∙ c .enum-told .given .1)
 
 returns-2 : tie.Need-returns-2
 returns-2 c =
@@ -65,7 +66,7 @@ returns-2 c =
     let number = offsets .before in
     let category = number .before in
     let told = category .before .before in
-    all _ _ _ _ _ _ _ _ _
+    all _ _ _ _ _ _ _ _ _ _
     (sym (told .before .before .supported-of .ensures) ∙ told .template .given .1)
     (offsets .offsets-by .ensures) (category .octet-at .ensures) (number .octet-at2 .ensures)
     (process .octet-at3 .ensures) (time .time-at .ensures) (c .surfaces-at .ensures)

@@ -9,7 +9,7 @@ use Rattle.products.proofs.product_of.Tie as tie
 
 returns : tie.Need-returns
 unfolding rows
-returns c = c .product-by .ensures ∙ product-by-the-table _
+returns c = c .product-by .ensures ∙ product-by-the-table _ _
 
 pub product-of-spec : {M : Type 1} → statement M
 product-of-spec = tie.close (tie.spec (λ c. search needs) (λ c κs. search needs) returns)

@@ -10,8 +10,9 @@ returns-2 : tie.Need-returns-2
 returns-2 c =
     let from = c .before .before in
     let index = from .before .before in
-    at-index NoTime timeOf (index .before .before .before .args .payload .now) _ _ _ _ _ (index .index .given .1) (from .from .ensures)
-    (c .before .from2 .ensures) (c .time-of .ensures)
+    let a = index .before .before .before .args in
+    at-index NoTime (timeOf (a .width)) (a .payload .now) _ _ _ _ _ (index .index .given .1)
+    (from .from .ensures) (c .before .from2 .ensures) (c .time-of .ensures)
 
 pub time-at-spec : {M : Type 1} → statement M
 time-at-spec =

@@ -1,27 +1,31 @@
--- `buttresk_product_definition` meets its contract: each field is what the library says of the payload, in numbers.
+-- `buttresk_product_definition` meets its contract: the number names a reading, or it names none.
+use mathlib.Core.Path.{sym, _∙_}
 use borrow.Author.Needs.{needs}
-use Rattle.buttresk.specs.Product.{productFields}
+use Rattle.buttresk.specs.Product.{fieldsBy, productFields}
 use Rattle.buttresk.proofs.product.buttresk_product_definition.Statement.{statement}
 use Rattle.buttresk.proofs.product.buttresk_product_definition.Tie as tie
 
 returns : tie.Need-returns
-unfolding productFields
+unfolding productFields fieldsBy
 returns c =
-    let time = c .before in
-    let process = time .before in
-    let number = process .before in
-    let category = number .before in
-    let product = category .before in
+    let told = c .before in
+    let asked = told .before .before in
+    c .product-fields .ensures
+    ∙ rw (sym (asked .reading-of .ensures), told .enum-told .given .1)
+
+returns-2 : tie.Need-returns-2
+unfolding productFields fieldsBy
+returns-2 c =
+    let product = c .before in
     let definition = product .before in
-    rw (
-      c .surfaces-field .ensures,
-      time .time-field .ensures,
-      process .octet-field3 .ensures,
-      number .octet-field2 .ensures,
-      category .octet-field .ensures,
+    let told = definition .before .before in
+    let asked = told .before .before in
+    c .product-fields2 .ensures
+    ∙ rw (
+      sym (asked .reading-of .ensures),
+      told .named .given .1,
       product .product-of .ensures,
-      definition .definition-fields .ensures,
-      definition .before .from-payload .ensures,
+      definition .from-payload .ensures,
     )
 
 pub buttresk-product-definition-spec : {M : Type 1} → statement M
@@ -29,11 +33,11 @@ buttresk-product-definition-spec =
     tie.close
     (tie.spec
     (λ c κs. search needs)
+    (λ c. search needs)
+    (λ c. search needs)
+    (λ c. search needs)
+    returns
     (λ c κs. search needs)
     (λ c κs. search needs)
-    (λ c κs. search needs)
-    (λ c κs. search needs)
-    (λ c κs. search needs)
-    (λ c κs. search needs)
-    (λ c κs. search needs)
-    returns)
+    (λ c. search needs)
+    returns-2)

@@ -10,6 +10,7 @@ use Rattle.sections.specs.Indicator.{indicatorOf}
 use Rattle.sections.specs.declared.indicator.Indicator.{Indicator}
 use Rattle.sections.specs.declared.indicator.MaybeIndicator.the-variants.{Fields, NoIndicator}
 use Rattle.products.specs.Products.{productOf}
+use Rattle.products.specs.declared.templates.TemplateReading.the-variants.{ByManual}
 use Rattle.products.proofs.Rows.{product-by-the-table}
 use Rattle.index.specs.Decoded.{ownOctets, payloadOf}
 use Rattle.entries.specs.Entries.{entryLine, textOf}
@@ -35,7 +36,7 @@ unfolding entriesIn indicatorIn textOf
 no-entry file m e = rw e
 
 one-entry : (file : List ℕ) (m : Memory) {indicator : Indicator} → indicatorOf (ownOctets file (m .zeroth)) ≡ Fields indicator
-    → textOf (entriesIn file m) ≡ entryLine (entryIn m indicator (productOf (payloadOf file (m .fourth))))
+    → textOf (entriesIn file m) ≡ entryLine (entryIn m indicator (productOf ByManual (payloadOf file (m .fourth))))
 unfolding entriesIn indicatorIn textOf
 one-entry file m e = rw e (append-nil _)
 
@@ -71,9 +72,9 @@ returns-2 c =
     let start = own .before .before .before .before .before .before in
     let a = start .args in
     let payload = payloadOf (a .file .now) (a .memory .fourth) in
-    let product : decoded .product-by .result ≡ productOf payload =
+    let product : decoded .product-by .result ≡ productOf ByManual payload =
     decoded .product-by .ensures
-    ∙ rw (start .pre .0, paid .payload-of .ensures) (product-by-the-table payload) in
+    ∙ rw (start .pre .0, paid .payload-of .ensures) (product-by-the-table ByManual payload) in
     as-text (a .file .now) (a .memory)
     (one-entry (a .file .now) (a .memory) (ap indicatorOf (sym (own .own-octets .ensures)) ∙ sym (asked .from-section .ensures) ∙ known .known .given .1)
     ∙ sym (ap entryLine (made .entry-in .ensures ∙ rw product)))

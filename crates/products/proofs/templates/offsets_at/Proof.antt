@@ -9,7 +9,7 @@ use Rattle.products.proofs.templates.offsets_at.Tie as tie
 
 returns : tie.Need-returns
 unfolding rows
-returns c = c .offsets-by .ensures ∙ by-the-table _
+returns c = c .offsets-by .ensures ∙ by-the-table _ _
 
 pub offsets-at-spec : {M : Type 1} → statement M
 offsets-at-spec = tie.close (tie.spec (λ c. search needs) (λ c κs. search needs) returns)

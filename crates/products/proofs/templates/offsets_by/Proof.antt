@@ -1,42 +1,28 @@
--- `offsets_by` meets its contract: behind the last row there is none, else the row's columns.
-use Prim.Native.Nat.{ℕ, _/_, _%_, _<_}
-use native.Mathlib.Omega.{arith}
-use mathlib.Core.Path.{_≡_}
-use mathlib.Core.List.{List}
-use lib.ListN.{length, getD, List·getD-eq-default}
+-- `offsets_by` meets its contract: the row, or what the Manual makes of it.
+use mathlib.Core.Path.{_∙_}
 use borrow.Author.Needs.{needs}
-use Rattle.products.specs.Rows.{none, column, columns, offsetsBy}
-use Rattle.products.specs.declared.templates.Index.{Index}
-use Rattle.products.proofs.EachEntry.{inside-it}
+use Rattle.products.specs.Readings.{byReading}
+use Rattle.products.specs.Rows.{offsetsBy}
 use Rattle.products.proofs.templates.offsets_by.Statement.{statement}
 use Rattle.products.proofs.templates.offsets_by.Tie as tie
 
 returns : tie.Need-returns
-unfolding offsetsBy columns column
-returns c = rw (List·getD-eq-default _ none (c .if1 .taken))
-
-read : (lent : List ℕ) (n : ℕ) (process time surfaces : Index) → n < length lent
-    → process ≡ column (getD lent n 0 % 256) → time ≡ column (getD lent n 0 / 256 % 256)
-    → surfaces ≡ column (getD lent n 0 / 65536)
-    → record { process = process; time = time; surfaces = surfaces } ≡ offsetsBy lent n
-unfolding offsetsBy columns
-read lent n process time surfaces inside p t s = rw (p, t, s, inside-it lent n 0 none inside)
+unfolding offsetsBy byReading
+returns c = rw (c .enum-told .given .1) (c .before .before .row-of .ensures)
 
 returns-2 : tie.Need-returns-2
+unfolding offsetsBy
 returns-2 c =
-    let second = c .before in
-    let first = second .before in
-    read _ _ _ _ _ (omega arith) (first .column-of .ensures) (second .column-of2 .ensures)
-    (c .column-of3 .ensures)
+    let told = c .before in
+    c .by-manual .ensures ∙ rw (told .enum-told2 .given .1, told .before .before .row-of .ensures)
 
 pub offsets-by-spec : {M : Type 1} → statement M
 offsets-by-spec =
     tie.close
     (tie.spec
+    (λ c κs. search needs)
+    (λ c. search needs)
+    (λ c. search needs)
+    (λ c κs. search needs)
     returns
-    (λ c. search needs)
-    (λ c. search needs)
-    (λ c κs. search needs)
-    (λ c κs. search needs)
-    (λ c κs. search needs)
     returns-2)

@@ -1,49 +1,45 @@
 -- `kinds::offsets_request_at` meets its contract: the end of the input cuts the numbers, or the
--- reading is another, or neither.
+-- reading is as the crate, by the Manual, or another.
 use native.Mathlib.Omega.{arith}
+use mathlib.Core.Path.{sym}
 use borrow.Author.Needs.{needs}
-use Rattle.requests.proofs.EachKind.{offsets-cut, offsets-of-another-reading, offsets-whole}
+use Rattle.requests.proofs.EachKind.{
+  offsets-cut,
+  offsets-read,
+  offsets-of-another-reading,
+}
 use Rattle.requests.proofs.kinds.offsets_request_at.Statement.{statement}
 use Rattle.requests.proofs.kinds.offsets_request_at.Tie as tie
-
-sub-if1 : tie.Need-sub-if1
-sub-if1 c = search needs
 
 returns : tie.Need-returns
 returns c = offsets-cut _ _ (omega arith)
 
-add-if2 : tie.Need-add-if2
-add-if2 c = search needs
-
-shared-slice-read-if2 : tie.Need-shared-slice-read-if2
-shared-slice-read-if2 c = search needs
-
 returns-2 : tie.Need-returns-2
-returns-2 c = offsets-of-another-reading _ _ (omega arith) (c .if2 .taken)
-
-add-two-octets : tie.Need-add-two-octets
-add-two-octets c = search needs
-
-two-octets-requires : tie.Need-two-octets-requires
-two-octets-requires c κs = search needs
-
-add-t3 : tie.Need-add-t3
-add-t3 c = search needs
+returns-2 c =
+    offsets-read _ _ 0 _ (sym (c .match .keys1)) (c .before .before .two-octets .ensures)
+    (omega arith)
 
 returns-3 : tie.Need-returns-3
 returns-3 c =
-    offsets-whole _ _ _ (c .two-octets .ensures) (omega arith) (c .before .if2 .left)
+    offsets-read _ _ 1 _ (sym (c .match .keys2)) (c .before .before .two-octets .ensures)
+    (omega arith)
+
+returns-4 : tie.Need-returns-4
+returns-4 c =
+    let others = c .match .rest in
+    offsets-of-another-reading _ _ (others .0 .1) (others .1) (omega arith)
 
 pub offsets-request-at-spec : {M : Type 1} → statement M
 offsets-request-at-spec =
     tie.close
     (tie.spec
-    sub-if1
+    (λ c. search needs)
     returns
-    add-if2
-    shared-slice-read-if2
+    (λ c. search needs)
+    (λ c κs. search needs)
+    (λ c. search needs)
+    (λ c. search needs)
+    (λ c. search needs)
     returns-2
-    add-two-octets
-    two-octets-requires
-    add-t3
-    returns-3)
+    returns-3
+    returns-4)
