@@ -40,9 +40,9 @@ extern "C" {
 #endif
 
 /* The version, as a text and as numbers. What else has it takes it from here. */
-#define BUTTRESK_VERSION       "0.3.0"
+#define BUTTRESK_VERSION       "0.4.0"
 #define BUTTRESK_VERSION_MAJOR 0
-#define BUTTRESK_VERSION_MINOR 3
+#define BUTTRESK_VERSION_MINOR 4
 #define BUTTRESK_VERSION_PATCH 0
 
 /*
@@ -454,6 +454,18 @@ struct buttresk_product_fields {
    number of the caller's is cut down to a 1 or a 2. */
 struct buttresk_product_fields buttresk_product_definition(uint64_t reading, const uint8_t *payload,
                                                            size_t octets);
+
+/* When and where the field is, of one section 4. Either may be there without the other. */
+struct buttresk_when_where_fields {
+    struct buttresk_time_field time;
+    struct buttresk_surfaces_field surfaces;
+};
+
+/* Of a payload, by a reading: the two as `buttresk_product_definition` has them, without the rest.
+   There is no call for one of them alone, so that the two are of one payload. By a number that is
+   no reading both are none. */
+struct buttresk_when_where_fields buttresk_when_and_where(uint64_t reading, const uint8_t *payload,
+                                                          size_t octets);
 
 /* Section 5. */
 struct buttresk_representation_fields {

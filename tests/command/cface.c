@@ -611,7 +611,77 @@ static void no_readings(void)
     for (size_t i = 0; i < sizeof numbers / sizeof numbers[0]; i++) {
         EXPECT(nothing(buttresk_product_definition(numbers[i], whole, sizeof whole)));
         EXPECT(nothing(buttresk_product_definition(numbers[i], aerosol, sizeof aerosol)));
+        struct buttresk_when_where_fields w =
+            buttresk_when_and_where(numbers[i], aerosol, sizeof aerosol);
+        EXPECT(no_time(w.time) && no_surfaces(w.surfaces));
     }
+}
+
+static int same_surface(struct buttresk_surface a, struct buttresk_surface b)
+{
+    return a.type == b.type && a.factor == b.factor && a.value == b.value;
+}
+
+/* Time and surfaces of one call are those among the fields of the other. */
+static int as_before(uint64_t reading, const uint8_t *payload, size_t octets)
+{
+    struct buttresk_when_where_fields w = buttresk_when_and_where(reading, payload, octets);
+    struct buttresk_product_fields p = buttresk_product_definition(reading, payload, octets);
+    return w.time.known == p.time.known && w.time.unit == p.time.unit &&
+           w.time.time == p.time.time && w.surfaces.known == p.surfaces.known &&
+           same_surface(w.surfaces.first, p.surfaces.first) &&
+           same_surface(w.surfaces.second, p.surfaces.second);
+}
+
+/* Of 0, 32, 88 and 44: both, the time alone, the surfaces alone, and the time by each reading. A 32
+   has no index for surfaces; an 88 has them at 5, before its time at 26. */
+static void each_by_itself(uint64_t reading)
+{
+    uint8_t satellite[sizeof whole];
+    memcpy(satellite, whole, sizeof whole);
+    satellite[3] = 32;
+    struct buttresk_when_where_fields w = buttresk_when_and_where(reading, whole, sizeof whole);
+    EXPECT(is_time(w.time, 11, 0x0102) && w.surfaces.known == 1);
+    EXPECT(is_surface(w.surfaces.first, 103, -1, -5));
+    EXPECT(is_surface(w.surfaces.second, 255, 2, 2147483647));
+    w = buttresk_when_and_where(reading, satellite, sizeof satellite);
+    EXPECT(is_time(w.time, 11, 0x0102) && no_surfaces(w.surfaces));
+
+    const uint8_t local[40] = {0, 0, 0, 88, [9] = 5, 0x82,     0, 0, 0, 1, 7,
+                               0, 0, 0, 0,  2,       [30] = 1, 0, 0, 0, 6};
+    w = buttresk_when_and_where(reading, local, 21);
+    EXPECT(no_time(w.time) && w.surfaces.known == 1 && is_surface(w.surfaces.first, 5, -2, 1) &&
+           is_surface(w.surfaces.second, 7, 0, 2));
+    w = buttresk_when_and_where(reading, local, 20);
+    EXPECT(no_time(w.time) && no_surfaces(w.surfaces));
+    w = buttresk_when_and_where(reading, local, 35);
+    EXPECT(is_time(w.time, 1, 6) && w.surfaces.known == 1);
+
+    w = buttresk_when_and_where(reading, aerosol, sizeof aerosol);
+    EXPECT(is_time(w.time, 1, reading == BUTTRESK_BY_MANUAL ? 6 : 394626));
+    EXPECT(w.surfaces.known == 1 && is_surface(w.surfaces.first, 5, -2, 1) &&
+           is_surface(w.surfaces.second, 7, 0, 2));
+}
+
+/* A payload of every template number, and one of every length. */
+static void when_and_where(void)
+{
+    uint8_t payload[60];
+    int equal = 1;
+    for (size_t i = 0; i < sizeof payload; i++) {
+        payload[i] = (uint8_t)(17 * i + 3);
+    }
+    for (int i = 0; i < READINGS; i++) {
+        each_by_itself(readings[i]);
+        for (uint32_t number = 0; number < 65536; number++) {
+            payload[2] = (uint8_t)(number >> 8), payload[3] = (uint8_t)number;
+            equal = equal && as_before(readings[i], payload, sizeof payload);
+        }
+        for (size_t octets = 0; octets <= sizeof aerosol; octets++) {
+            equal = equal && as_before(readings[i], aerosol, octets);
+        }
+    }
+    EXPECT(equal);
 }
 
 /* The inventory reads by the Manual. */
@@ -639,6 +709,7 @@ static void products_by_both_readings(void)
     processes_of_47();
     neighbours_of_44();
     no_readings();
+    when_and_where();
     inventory_of_44();
 }
 
@@ -661,6 +732,8 @@ static void nulls(void)
     EXPECT(nothing(buttresk_product_definition(BUTTRESK_AS_CRATE, NULL, 0)));
     EXPECT(nothing(buttresk_product_definition(BUTTRESK_BY_MANUAL, NULL, 0)));
     EXPECT(nothing(buttresk_product_definition(0, NULL, 0)));
+    struct buttresk_when_where_fields t = buttresk_when_and_where(BUTTRESK_BY_MANUAL, NULL, 0);
+    EXPECT(no_time(t.time) && no_surfaces(t.surfaces));
 }
 
 /* Each lent memory alone is null, and the call has work to do with the others. */

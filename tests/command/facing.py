@@ -134,7 +134,7 @@ def libraries_have_what_is_declared(prefix):
                 [f"buttresk_{name}" for name in (
                     "bit_map", "grid_definition", "identification", "indicator", "inventory",
                     "product_definition", "publish", "read_list", "representation", "walk",
-                    "write")])
+                    "when_and_where", "write")])
     check_equal("the shared library exports them and nothing else",
                 defined("-D", lib / "libbuttresk.so.1"), declared())
     check_equal("and so does the archive", defined("-g", lib / "libbuttresk.a"), declared())

@@ -23,7 +23,7 @@ import inventory_by_02
 import inventory_files
 import reference
 import write_plans
-from aerosols import READ, with_product
+from aerosols import LAYER, READ, with_product
 from copy_files import BEFORE, FULL, LARGEST_ROOM
 from fields_by_01 import (LEAST, PROCESS, PRODUCT_START, SUPPORTED, SURFACES, TIME, fields_by_01,
                           offsets_by_01, signed, start_of)
@@ -163,9 +163,12 @@ def list_pair(text, room):
     return list_request(text, room), list_answer(*inventory_by_02.read_list(text, room))
 
 
-# Kind `O`: the numbers of the readings, and who reads so.
+# Kinds `O` and `T`: the numbers of the readings, and who reads so.
 AS_CRATE, BY_MANUAL = 0, 1
+READINGS = AS_CRATE, BY_MANUAL
 OFFSETS_BY = {AS_CRATE: offsets_by_01, BY_MANUAL: offsets_by_manual}
+FIELDS_BY = {AS_CRATE: fields_by_01, BY_MANUAL: fields_by_manual}
+WHEN, WHERE = slice(5, 7), slice(7, 13)     # among section 4's fields
 
 
 def offsets_request(template, reading=AS_CRATE):
@@ -180,6 +183,21 @@ def offsets_pair(template, reading=AS_CRATE):
     """An offsets request, answered by the ranges of document 01's source, and by 02 where it reads
     by the Manual."""
     return offsets_request(template, reading), offsets_answer(OFFSETS_BY[reading](template))
+
+
+def when_where_request(payload, reading):
+    return b"T" + bytes([reading]) + octets_of(len(payload), 4) + payload
+
+
+def when_where_answer(when, where):
+    return " ".join(["when", *map(word, when), "where", *map(word, where)])
+
+
+def when_where_pair(payload, reading):
+    """Time and surfaces of a payload, answered by document 01, and by 02 where it reads by the
+    Manual. Under its least a payload has none of its fields."""
+    found = FIELDS_BY[reading](4, payload) or [None] * 13
+    return when_where_request(payload, reading), when_where_answer(found[WHEN], found[WHERE])
 
 
 def agreed(pair, by_reference):
@@ -765,6 +783,73 @@ def offsets_list():
     return pairs + [(offsets_request(44, reading=2), "bad")]
 
 
+# Payloads that have a time, surfaces, both or neither, by both readings: unit, time and the
+# surfaces, written by hand. 32 has no index for surfaces; 88 has them at 5 and its time at 26; 64
+# is not supported.
+SURFACES_SAID = [5, -2, 1, 7, 0, 2]
+ZERO_TO_TIME = bytes(8) + b"\1\0\0\0\6"
+LOCAL_TIME = bytes([0, 0, 0, 88]) + bytes(5) + LAYER + bytes(9) + b"\1\0\0\0\6"
+NO_WHEN, NO_WHERE = [None] * 2, [None] * 6
+EACH_BY_ITSELF = [
+    (bytes([0, 0, 0, 0]) + ZERO_TO_TIME + LAYER, [1, 6], SURFACES_SAID),
+    (bytes([0, 0, 0, 0]) + ZERO_TO_TIME + LAYER[:11], [1, 6], NO_WHERE),
+    (bytes([0, 0, 0, 0]) + ZERO_TO_TIME[:12], NO_WHEN, NO_WHERE),
+    (bytes([0, 0, 0, 32]) + ZERO_TO_TIME + LAYER, [1, 6], NO_WHERE),
+    (bytes([0, 0, 0, 64]) + ZERO_TO_TIME + LAYER, NO_WHEN, NO_WHERE),
+    (LOCAL_TIME, [1, 6], SURFACES_SAID),
+    (LOCAL_TIME[:34], NO_WHEN, SURFACES_SAID),
+    (LOCAL_TIME[:21], NO_WHEN, SURFACES_SAID),
+    (LOCAL_TIME[:20], NO_WHEN, NO_WHERE),
+    (b"", NO_WHEN, NO_WHERE),
+    (bytes(3), NO_WHEN, NO_WHERE),
+    (bytes(4), NO_WHEN, NO_WHERE),
+]
+
+
+def when_where_by_hand():
+    """And what tells the two readings apart: unit, time and type of the first surface."""
+    for payload, when, where in EACH_BY_ITSELF:
+        for reading in READINGS:
+            yield agreed((when_where_request(payload, reading), when_where_answer(when, where)),
+                         when_where_pair(payload, reading))
+    for what, payload, by_manual, _, as_crate, _ in READ:
+        for reading, (_, *said) in ((AS_CRATE, as_crate), (BY_MANUAL, by_manual)):
+            found = FIELDS_BY[reading](4, payload)
+            assert [*found[WHEN], found[WHERE][0]] == said, what
+            yield when_where_pair(payload, reading)
+
+
+def when_where_by_eccodes(samples):
+    """Of every supported template that eccodes has, and that has both where the Manual has them:
+    eccodes' values, by the Manual; and as the crate by 01."""
+    with tempfile.TemporaryDirectory() as folder:
+        written = Path(folder) / "message"
+        for template in numbers_in(SUPPORTED):
+            if template in OTHERWISE_IN_LINES | NOT_IN_ECCODES:
+                continue
+            settings = f"tablesVersion=30,productDefinitionTemplateNumber={template},"
+            write_by_eccodes(samples / "GRIB2.tmpl", settings + PRODUCT_SETTINGS, written)
+            said = [value_by_01(key, value) for key, value in zip(KEYS[4], ask_eccodes(written, 4))]
+            payload = dict(split_message(written.read_bytes()))[4]
+            yield agreed((when_where_request(payload, BY_MANUAL),
+                          when_where_answer(said[WHEN], said[WHERE])),
+                         when_where_pair(payload, BY_MANUAL))
+            yield when_where_pair(payload, AS_CRATE)
+
+
+def when_where_list(samples):
+    """The last request names a reading that there is not."""
+    pairs = [*when_where_by_hand(), *when_where_by_eccodes(samples)]
+    for reading in READINGS:
+        for template in boundary_templates():
+            pairs += [when_where_pair(product_payload(template, 60, flip), reading)
+                      for flip in (0, 0x80)]
+        for template in one_template_of_each_layout():
+            pairs += [when_where_pair(product_payload(template, n), reading)
+                      for n in cut_lengths(template)]
+    return pairs + [(when_where_request(LOCAL_TIME, 2), "bad")]
+
+
 # File and what gribwalk prints of it: as documents 01 and 02 have it; a second message that is
 # broken after a submessage; one octet too many, though the walk would end well.
 GRIBWALK = {
@@ -824,6 +909,7 @@ def main():
         "replay_write_edges": message_edges_list(),
         "replay_inventory": inventory_list(given.samples),
         "replay_offsets": offsets_list(),
+        "replay_when_where": when_where_list(given.samples),
     }
     for name, pairs in lists.items():
         assert write_list(given.out / name, pairs) <= 262144, name

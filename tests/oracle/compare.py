@@ -21,7 +21,8 @@ import files
 import payloads
 import plans
 import verdict
-from replay_lists import BY_MANUAL, offsets_answer, offsets_pair
+from replay_lists import (AS_CRATE, BY_MANUAL, offsets_answer, offsets_pair, when_where_pair,
+                          when_where_request)
 from sides import (LARGEST_TABLES, Oracle, Replay, Told, fields_request, pull_request,
                    signed_request, walk_request, write_request)
 
@@ -117,7 +118,20 @@ class Comparison:
             key = number, payload
             if key not in self.seen_payloads:
                 self.seen_payloads.add(key)
-                self.ask("fields", fields_request(number, payload), expected)
+                self.ask_fields(number, payload, expected)
+
+    def ask_fields(self, number, payload, by_crate):
+        """And of section 4 its time and surfaces in one call. By the Manual they differ from the
+        crate's in the time of 44, and there alone."""
+        self.ask("fields", fields_request(number, payload), by_crate)
+        if number != 4:
+            return
+        both = payloads.when_where_told(by_crate)
+        self.ask("when and where", when_where_request(payload, AS_CRATE), both)
+        request, by_02 = when_where_pair(payload, BY_MANUAL)
+        if both != by_02 and payload[2:4] != b"\0\x2c":
+            self.difference("02's and the crate's when and where", payload.hex(), both, by_02)
+        self.ask("when and where by the Manual", request, by_02)
 
     # --- Payloads and numbers by themselves
 
@@ -125,8 +139,7 @@ class Comparison:
         cases = list(cases)
         requests = [bytes([number]) + payload for number, payload in cases]
         for (number, payload), told in zip(cases, self.oracle.answers(b"F", requests)):
-            expected = payloads.fields_expected(number, told)
-            self.ask("fields", fields_request(number, payload), expected)
+            self.ask_fields(number, payload, payloads.fields_expected(number, told))
 
     def signed(self, cases):
         cases = list(cases)
@@ -231,7 +244,7 @@ def main():
                          help="how many plans without fault; each has faulty copies")
     options.add_argument("--every", type=int, default=1, metavar="N",
                          help="every N-th only: a quick look, which counts no outcome")
-    options.add_argument("--kinds", default="WPFSOMI", help="kinds of requests that ours is asked")
+    options.add_argument("--kinds", default="WPFSOTMI", help="kinds of requests that ours is asked")
     given = options.parse_args()
     comparison = Comparison(given)
 

@@ -44,6 +44,14 @@ def fields_expected(number, told):
     return f"fields {number} none"
 
 
+def when_where_told(fields):
+    """The crate's time and surfaces of a section 4, by its line of fields, in the words of `T`;
+    both are none where it makes no section of the payload."""
+    _, _, *words = fields.split()
+    unit, time, *surfaces = words[5:] if len(words) > 1 else ["none"] * 8
+    return " ".join(["when", unit, time, "where", *surfaces])
+
+
 def telling_places(template):
     """A payload of section 4 in which each octet from the template's first one on is its place."""
     return bytes(2) + template.to_bytes(2, "big") + bytes(range(PRODUCT_START, 256))

@@ -50,6 +50,11 @@ FAULTS = {
         Edit("replaying/src/answers.rt", "product_of(TemplateReading::AsCrate, payload)",
              "product_of(TemplateReading::ByManual, payload)"),
     ]),
+    "when_by_manual": ("kind `T` always reads by the Manual; what prints has no contract",
+                       "when and where", [
+        Edit("replaying/src/answers.rt", "when_and_where(reading, payload)",
+             "when_and_where(TemplateReading::ByManual, payload)"),
+    ]),
     # An unsupported template: its fields are none whatever its row says.
     "surfaces_of_16": ("template 16 has surfaces as 15 has, in definitions and code", "offsets", [
         Edit("products/specs/Templates.antt", "(0 to 15 is At 13)", "(0 to 16 is At 13)"),
@@ -110,7 +115,7 @@ def main():
                          help="the folder below which eccodes' samples are")
     options.add_argument("--every", type=int, default=20, metavar="N",
                          help="compare every N-th file")
-    options.add_argument("--kinds", default="WPFSOMI")
+    options.add_argument("--kinds", default="WPFSOTMI")
     # argparse holds the empty list to the choices, too.
     options.add_argument("fault", nargs="*", choices=[*FAULTS, []], help="all, if none is named")
     given = options.parse_args()

@@ -11,7 +11,7 @@ use Rattle.sections.specs.declared.prod_definition.MaybeProdDefinition.the-vari
   Fields,
   NoProdDefinition,
 }
-use Rattle.products.specs.Products.{productOf}
+use Rattle.products.specs.Products.{whenWhereOf, productOf}
 use Rattle.products.specs.declared.templates.TemplateReading.{TemplateReading}
 use Rattle.products.specs.declared.templates.TemplateReading.the-variants.{AsCrate, ByManual}
 use Rattle.products.specs.declared.FixedSurface.{FixedSurface}
@@ -21,6 +21,7 @@ use Rattle.products.specs.declared.MaybeTime.{MaybeTime}
 use Rattle.products.specs.declared.MaybeTime.the-variants.{Time, NoTime}
 use Rattle.products.specs.declared.MaybeSurfaces.{MaybeSurfaces}
 use Rattle.products.specs.declared.MaybeSurfaces.the-variants.{Both, NoSurfaces}
+use Rattle.products.specs.declared.WhenWhere.{WhenWhere}
 use Rattle.products.specs.declared.Product.{Product}
 use Rattle.buttresk.specs.declared.product.DefinitionFields.{DefinitionFields}
 use Rattle.buttresk.specs.declared.product.OctetField.{OctetField}
@@ -28,6 +29,7 @@ use Rattle.buttresk.specs.declared.product.TimeField.{TimeField}
 use Rattle.buttresk.specs.declared.product.Surface.{Surface}
 use Rattle.buttresk.specs.declared.product.SurfacesField.{SurfacesField}
 use Rattle.buttresk.specs.declared.product.ProductFields.{ProductFields}
+use Rattle.buttresk.specs.declared.product.WhenWhereFields.{WhenWhereFields}
 use Rattle.buttresk.specs.declared.product.MaybeReading.{MaybeReading}
 use Rattle.buttresk.specs.declared.product.MaybeReading.the-variants.{Named, NoReading}
 
@@ -75,6 +77,11 @@ fieldsOf maybe product =
       surfaces = surfacesField (product .surfaces);
     }
 
+-- when and where as numbers
+unfoldable pub whenWhereNumbers : WhenWhere → WhenWhereFields
+whenWhereNumbers told =
+    record { time = timeField (told .time); surfaces = surfacesField (told .surfaces) }
+
 -- the reading of a number (02, Ticket 6): 1 as the crate, 2 by the Manual, and no other
 unfoldable pub readingOf : ℕ → MaybeReading
 readingOf number =
@@ -101,3 +108,13 @@ fieldsBy NoReading definition product = fieldsOf NoProdDefinition noProduct
 unfoldable pub productFields : ℕ → List ℕ → ProductFields
 productFields number s =
     fieldsBy (readingOf number) (prodDefinitionOf s) (λ reading. productOf reading s)
+
+-- when and where of a payload by a reading, and neither without one
+unfoldable pub whenWhereBy : MaybeReading → (TemplateReading → WhenWhere) → WhenWhere
+whenWhereBy (Named reading) told = told reading
+whenWhereBy NoReading told = record { time = NoTime; surfaces = NoSurfaces }
+
+-- section 4's time and surfaces alone (02, Ticket 12): of a payload, by the reading of a number
+unfoldable pub whenWhereFields : ℕ → List ℕ → WhenWhereFields
+whenWhereFields number s =
+    whenWhereNumbers (whenWhereBy (readingOf number) (λ reading. whenWhereOf reading s))

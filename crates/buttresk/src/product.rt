@@ -1,16 +1,20 @@
-// The decoded fields of section 4, by a reading that the caller names. A `known` stands beside every
-// value that can be none: where it is 0, the value says nothing.
+// The decoded fields of section 4, by a reading that the caller names: all of them, or when and
+// where alone. A `known` stands beside every value that can be none: where it is 0, the value says
+// nothing.
 ghost use mathlib.Core.Path.{_≡_};
 ghost use Rattle.buttresk.specs.Product.{octetField, timeField, surfaceNumbers};
 ghost use Rattle.buttresk.specs.Product.{surfacesField, definitionFields, fieldsOf};
-ghost use Rattle.buttresk.specs.Product.{readingOf, productFields};
+ghost use Rattle.buttresk.specs.Product.{whenWhereNumbers, readingOf, productFields};
+ghost use Rattle.buttresk.specs.Product.{whenWhereFields};
 use products::FixedSurface;
 use products::MaybeOctet;
 use products::MaybeSurfaces;
 use products::MaybeTime;
 use products::Product;
 use products::TemplateReading;
+use products::WhenWhere;
 use products::product_of;
+use products::when_and_where;
 use sections::MaybeProdDefinition;
 use sections::ProdDefinition;
 
@@ -50,6 +54,13 @@ pub struct ProductFields {
     pub category: OctetField,
     pub number: OctetField,
     pub process: OctetField,
+    pub time: TimeField,
+    pub surfaces: SurfacesField,
+}
+
+// Time and surfaces of one payload.
+#[repr(C)]
+pub struct WhenWhereFields {
     pub time: TimeField,
     pub surfaces: SurfacesField,
 }
@@ -160,6 +171,18 @@ fn product_fields(definition: MaybeProdDefinition, product: Product) -> ProductF
     }
 }
 
+// When and where as numbers.
+fn when_where_fields(told: WhenWhere) -> WhenWhereFields
+    ensures { λ r. ⌜ r ≡ whenWhereNumbers told ⌝ }
+{
+    let time = told.time;
+    let surfaces = told.surfaces;
+    WhenWhereFields {
+        time: time_field(time),
+        surfaces: surfaces_field(surfaces),
+    }
+}
+
 // The number of the reading as the crate.
 const AS_CRATE: u64 = 1;
 
@@ -185,8 +208,8 @@ fn reading_of(number: u64) -> MaybeReading
 }
 
 // Section 4's fields with `known` 1, or `known` 0: of its payload, by a reading. Each product field
-// has its own. By a number that names no reading every `known` is 0. The number has 64 bits, so that
-// a wider one of the caller's is never cut down to one that names a reading.
+// has its own. By a number that names no reading every `known` is 0. The number has 64 bits, so
+// that a wider one of the caller's is never cut down to one that names a reading.
 #[no_mangle]
 pub extern "C" fn buttresk_product_definition(reading: u64, payload: &[u8]) -> ProductFields
     ensures { λ r. ⌜ r ≡ productFields reading (now (payload .entry)) ⌝ }
@@ -205,4 +228,20 @@ pub extern "C" fn buttresk_product_definition(reading: u64, payload: &[u8]) -> P
         ProdDefinition::from_payload(payload),
         product_of(named, payload),
     )
+}
+
+// When and where a payload of section 4 says that its field is, by a reading: the time and the
+// surfaces, each with its own `known`, as `buttresk_product_definition` has them. By a number that
+// names no reading both are 0.
+#[no_mangle]
+pub extern "C" fn buttresk_when_and_where(reading: u64, payload: &[u8]) -> WhenWhereFields
+    ensures { λ r. ⌜ r ≡ whenWhereFields reading (now (payload .entry)) ⌝ }
+{
+    let MaybeReading::Named(named) = reading_of(reading) else {
+        return when_where_fields(WhenWhere {
+            time: MaybeTime::NoTime,
+            surfaces: MaybeSurfaces::NoSurfaces,
+        });
+    };
+    when_where_fields(when_and_where(named, payload))
 }

@@ -60,7 +60,7 @@ use Rattle.products.specs.declared.MaybeTime.{MaybeTime}
 use Rattle.products.specs.declared.MaybeTime.the-variants.{NoTime}
 
 -- of both readings, if of each
-in-both : {A : Type 0} (f : TemplateReading → A) {a : A} → f AsCrate ≡ a → f ByManual ≡ a
+pub in-both : {A : Type 0} (f : TemplateReading → A) {a : A} → f AsCrate ≡ a → f ByManual ≡ a
     → (reading : TemplateReading) → f reading ≡ a
 in-both f c m AsCrate = c
 in-both f c m ByManual = m

@@ -1,6 +1,6 @@
--- Where the two readings differ, and that they agree everywhere else (02, Ticket 6: "All else agrees
--- between both, shown once over every template number"). The statements are proved in proofs/, under
--- their names in small letters.
+-- Where the two readings differ, and that they agree everywhere else (02, Ticket 6: "All else
+-- agrees between both, shown once over every template number"). The statements are proved in
+-- proofs/, under their names in small letters.
 use Prim.Native.Nat.{ℕ}
 use mathlib.Core.Path.{_≡_}
 use mathlib.Core.List.{List, [], _∷_, _++_}
@@ -19,6 +19,7 @@ use Rattle.products.specs.declared.templates.Offsets.{Offsets}
 use Rattle.products.specs.declared.MaybeOctet.the-variants.{Octet, NoOctet}
 use Rattle.products.specs.declared.MaybeTime.{MaybeTime}
 use Rattle.products.specs.declared.MaybeTime.the-variants.{Time, NoTime}
+use Rattle.products.specs.declared.MaybeSurfaces.{MaybeSurfaces}
 use Rattle.products.specs.declared.MaybeSurfaces.the-variants.{Both, NoSurfaces}
 
 -- every template number but 44 and 47, supported or not; and of a payload all but the time of a 44
@@ -46,7 +47,12 @@ dust behind = 0 ∷ 0 ∷ 0 ∷ 44 ∷ replicate 21 0 ++ 1 ∷ behind
 abbrev pub twoSurfaces : List ℕ
 twoSurfaces = 5 ∷ 130 ∷ 0 ∷ 0 ∷ 0 ∷ 1 ∷ 7 ∷ 0 ∷ 0 ∷ 0 ∷ 0 ∷ 2 ∷ []
 
-abbrev said : ℕ → MaybeTime
+abbrev pub saidSurfaces : MaybeSurfaces
+saidSurfaces =
+    Both (record { surface = 5; factor = negsuc 1; value = pos 1 })
+    (record { surface = 7; factor = pos 0; value = pos 2 })
+
+abbrev pub said : ℕ → MaybeTime
 said time = Time (record { unit = 1; time = time })
 
 -- template 44: the time of such payloads, one whole, one that ends behind its two octets, one that
@@ -58,8 +64,7 @@ pub record At44 : Type 0 where
   pub whole-by-manual : forecastOf ByManual (dust (0 ∷ 6 ∷ twoSurfaces)) ≡ said 6
   pub whole-as-crate : forecastOf AsCrate (dust (0 ∷ 6 ∷ twoSurfaces)) ≡ said 394626
   pub surfaces : (reading : TemplateReading) → fixedOf reading (dust (0 ∷ 6 ∷ twoSurfaces))
-      ≡ Both (record { surface = 5; factor = negsuc 1; value = pos 1 })
-      (record { surface = 7; factor = pos 0; value = pos 2 })
+      ≡ saidSurfaces
   pub ended-by-manual : forecastOf ByManual (dust (0 ∷ 6 ∷ [])) ≡ said 6
   pub ended-as-crate : forecastOf AsCrate (dust (0 ∷ 6 ∷ [])) ≡ NoTime
   pub ended-surfaces : (reading : TemplateReading) → fixedOf reading (dust (0 ∷ 6 ∷ []))

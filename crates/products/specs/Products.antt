@@ -25,6 +25,7 @@ use Rattle.products.specs.declared.MaybeSurface.the-variants.{Surface, N
 use Rattle.products.specs.declared.MaybeSurfaces.{MaybeSurfaces}
 use Rattle.products.specs.declared.MaybeSurfaces.the-variants.{Both, NoSurfaces}
 use Rattle.products.specs.declared.Product.{Product}
+use Rattle.products.specs.declared.WhenWhere.{WhenWhere}
 use Rattle.products.specs.declared.Supported.{Supported}
 use Rattle.products.specs.declared.Supported.the-variants.{Template, NoTemplate}
 
@@ -104,6 +105,10 @@ forecastOf reading s = byTemplate NoTime (λ n. timeAt s (offsetsOf reading n)) 
 unfoldable pub fixedOf : TemplateReading → List ℕ → MaybeSurfaces
 fixedOf reading s =
     byTemplate NoSurfaces (λ n. surfacesAt s (offsetsOf reading n)) (supportedOf s)
+
+-- when and where (02, Ticket 12): the time or none, and the surfaces or none, of one payload
+unfoldable pub whenWhereOf : TemplateReading → List ℕ → WhenWhere
+whenWhereOf reading s = record { time = forecastOf reading s; surfaces = fixedOf reading s }
 
 -- all five
 unfoldable pub productOf : TemplateReading → List ℕ → Product

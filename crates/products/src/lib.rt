@@ -4,7 +4,8 @@
 ghost use mathlib.Core.Path.{_≡_};
 ghost use lib.ListN.{drop};
 ghost use Rattle.products.specs.Products.{octetOf, timeOf, surfaceOf, surfacesOf};
-ghost use Rattle.products.specs.Products.{supportedOf, byIndex, productBy, productOf};
+ghost use Rattle.products.specs.Products.{supportedOf, byIndex, whenWhereOf};
+ghost use Rattle.products.specs.Products.{productBy, productOf};
 ghost use Rattle.products.specs.declared.MaybeOctet.the-variants.{NoOctet};
 ghost use Rattle.products.specs.declared.MaybeTime.the-variants.{NoTime};
 ghost use Rattle.products.specs.declared.MaybeSurfaces.the-variants.{NoSurfaces};
@@ -62,6 +63,12 @@ enum MaybeSurface {
 pub enum MaybeSurfaces {
     Both(FixedSurface, FixedSurface),
     NoSurfaces,
+}
+
+// When and where, of one payload: the time or none, and the surfaces or none.
+pub struct WhenWhere {
+    pub time: MaybeTime,
+    pub surfaces: MaybeSurfaces,
 }
 
 // What a payload of section 4 says by its template. Category and number are of the code tables 4.1
@@ -204,9 +211,31 @@ fn surfaces_at(payload: &[u8], index: Index) -> MaybeSurfaces
     surfaces_of(from(from(payload, TEMPLATE), at))
 }
 
-// Category, number, generating process, time and surfaces of a payload of section 4, by a reading of
-// a lent table of templates: each is none if the template is unsupported, has no index for it, or
-// the payload ends too soon; both surfaces or none. The template is judged and its row looked up
+// When and where a payload of section 4 says that its field is, by a reading: the time or none, and
+// the surfaces or none, each as `product_of` has it. The template is judged and its row looked up
+// once. Each call lays the table `ROWS` out anew, but of an unsupported template.
+pub fn when_and_where(reading: TemplateReading, payload: &[u8]) -> WhenWhere
+    ensures { λ r. ⌜ r ≡ whenWhereOf reading (now (payload .entry)) ⌝ }
+{
+    let Supported::Template(template) = supported_of(payload) else {
+        return WhenWhere {
+            time: MaybeTime::NoTime,
+            surfaces: MaybeSurfaces::NoSurfaces,
+        };
+    };
+    let offsets = offsets_at(reading, template);
+    let unit = offsets.time;
+    let width = offsets.width;
+    let first = offsets.surfaces;
+    WhenWhere {
+        time: time_at(payload, unit, width),
+        surfaces: surfaces_at(payload, first),
+    }
+}
+
+// Category, number, generating process, time and surfaces of a payload of section 4, by a reading
+// of a lent table of templates: each is none if the template is unsupported, has no index for it,
+// or the payload ends too soon; both surfaces or none. The template is judged and its row looked up
 // once; each field is then there or none by itself.
 pub fn product_by(rows: &[u32], reading: TemplateReading, payload: &[u8]) -> Product
     ensures { λ r. ⌜ r ≡ productBy (now (rows .entry)) reading (now (payload .entry)) ⌝ }
@@ -236,9 +265,9 @@ pub fn product_by(rows: &[u32], reading: TemplateReading, payload: &[u8]) -> Pro
     }
 }
 
-// Category, number, generating process, time and surfaces of a payload of section 4, by a reading of
-// the table `ROWS`. Each call lays that table out anew: whoever asks for many payloads borrows it
-// once and lends it to `product_by`.
+// Category, number, generating process, time and surfaces of a payload of section 4, by a reading
+// of the table `ROWS`. Each call lays that table out anew: whoever asks for many payloads borrows
+// it once and lends it to `product_by`.
 pub fn product_of(reading: TemplateReading, payload: &[u8]) -> Product
     ensures { λ r. ⌜ r ≡ productOf reading (now (payload .entry)) ⌝ }
 {

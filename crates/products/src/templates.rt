@@ -15,7 +15,8 @@ pub enum Index {
 }
 
 // By whom templates are read (document 02, Ticket 6): as the crate and document 01 do, or by the
-// Manual. They differ in the time of 4.44 and in the generating process of 4.47. A caller names one.
+// Manual. They differ in the time of 4.44 and in the generating process of 4.47. A caller names
+// one.
 pub enum TemplateReading {
     AsCrate,
     ByManual,
@@ -68,7 +69,8 @@ fn column_of(octet: u32) -> Index
     Index::At(octet as usize)
 }
 
-// What a row says of its template, as the crate has it. A template behind the last row has no index.
+// What a row says of its template, as the crate has it. A template behind the last row has no
+// index.
 fn row_of(rows: &[u32], template: u16) -> Offsets
     ensures { λ r. ⌜ r ≡ columns (getD (now (rows .entry)) template none) ⌝ }
 {

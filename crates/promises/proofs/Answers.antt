@@ -155,6 +155,10 @@ module _ {M : Type 1} where
         (to-read 0 tt (number w32) ∷ by-value plain-TemplateReading ∷ by-value (plain-number w16) ∷ [])
         (λ n. refl) (λ 𝓤 H A content run κs a. tt) products.offsets_by.Met.met
         (λ n r e. id⊢ (n .memory) _);
+    products-when-and-where =
+        by 1 (by-value plain-TemplateReading ∷ to-read 0 tt (number w8) ∷ []) (λ n. refl)
+        (λ 𝓤 H A content run κs a. tt) products.when_and_where.Met.met
+        (λ n r e. id⊢ (n .memory) _);
     products-product-by =
         by 2
         (to-read 0 tt (number w32) ∷ by-value plain-TemplateReading ∷ to-read 1 tt (number w8) ∷ [])
@@ -217,6 +221,10 @@ module _ {M : Type 1} where
     buttresk-product-definition =
         by 1 (by-value (plain-number w64) ∷ to-read 0 tt (number w8) ∷ []) (λ n. refl)
         (λ 𝓤 H A content run κs a. tt) buttresk.buttresk_product_definition.Met.met
+        (λ n r e. id⊢ (n .memory) _);
+    buttresk-when-and-where =
+        by 1 (by-value (plain-number w64) ∷ to-read 0 tt (number w8) ∷ []) (λ n. refl)
+        (λ 𝓤 H A content run κs a. tt) buttresk.buttresk_when_and_where.Met.met
         (λ n r e. id⊢ (n .memory) _);
     buttresk-representation = by 1 (to-read 0 tt (number w8) ∷ []) (λ n. refl) (λ 𝓤 H A content run κs a. tt) buttresk.buttresk_representation.Met.met (λ n r e. id⊢ (n .memory) _);
     buttresk-bit-map = by 1 (to-read 0 tt (number w8) ∷ []) (λ n. refl) (λ 𝓤 H A content run κs a. tt) buttresk.buttresk_bit_map.Met.met (λ n r e. id⊢ (n .memory) _);

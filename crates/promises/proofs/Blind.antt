@@ -23,7 +23,11 @@ use Rattle.blindness.specs.Blindness.{One, Public}
 use Rattle.blindness.proofs.Spared.{terms-pass}
 use Rattle.blindness.proofs.Theorems.{blindness, public-copies}
 use Rattle.buttresk.specs.Fields as fields
-use Rattle.buttresk.specs.Product.{readingOf, fieldsBy, productFields}
+use Rattle.products.specs.Products.{whenWhereOf, productOf}
+use Rattle.products.specs.declared.templates.TemplateReading.{TemplateReading}
+use Rattle.products.specs.declared.Product.{Product}
+use Rattle.products.specs.declared.WhenWhere.{WhenWhere}
+use Rattle.buttresk.specs.Product.{readingOf, fieldsBy, productFields, whenWhereNumbers, whenWhereBy, whenWhereFields}
 use Rattle.walk_laws.proofs.WholeWalk.{is-clean}
 use Rattle.promises.specs.CFace.{FaceFields, indicatorFace, identificationFace, gridFace, productFace, representationFace, bitMapFace, noFace, faceOf, facesOf}
 
@@ -45,6 +49,11 @@ unfolding pulled
 equal-pulls f g d call =
     sequence f call ∙ ap (λ (t : Told). handsOut 0 (t .sections) (t .outcome) call) (one f g d .one-walk unlimited) ∙ sym (sequence g call)
 
+-- time and surfaces of a product, by each reading
+abbrev when-where : (TemplateReading → Product) → TemplateReading → WhenWhere
+when-where product reading =
+    record { time = product reading .time; surfaces = product reading .surfaces }
+
 -- the C face's fields are the library's, as numbers, by whatever reading
 abbrev shown : ℕ → SectionFields → FaceFields
 shown reading (ofIndicator i) = indicatorFace (fields.indicatorFields i)
@@ -52,6 +61,7 @@ shown reading (ofIdentification i) = identificationFace (fields.identificationFi
 shown reading (ofGrid g) = gridFace (fields.gridFields g)
 shown reading (ofProduct p) =
     productFace (fieldsBy (readingOf reading) (p .definition) (p .product))
+    (whenWhereNumbers (whenWhereBy (readingOf reading) (when-where (p .product))))
 shown reading (ofRepresentation r) = representationFace (fields.representationFields r)
 shown reading (ofBitMap b) = bitMapFace (fields.bitMapFields b)
 shown reading ofNone = noFace
@@ -64,7 +74,7 @@ module _ (reading : ℕ) where
   shown-pick false a b c d e f = f
 
   shows : (file : List ℕ) (s : Section) → faceOf reading file s ≡ shown reading (fieldsOf file s)
-  unfolding faceOf fieldsOf productSectionOf productFields
+  unfolding faceOf fieldsOf productSectionOf productFields whenWhereFields whenWhereOf productOf
   shows file s =
       shown-pick (eqb (s .number) 0) _ _ _ _ refl (shown-pick (eqb (s .number) 1) _ _ _ _ refl
       (shown-pick (eqb (s .number) 3) _ _ _ _ refl (shown-pick (eqb (s .number) 4) _ _ _ _ refl

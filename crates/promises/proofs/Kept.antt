@@ -2,6 +2,7 @@
 use mathlib.Core.Path.{sym, ap, _∙_}
 use Rattle.products.proofs.Rows.{table-is-the-ranges}
 use Rattle.products.proofs.Readings.{where-readings-differ}
+use Rattle.products.proofs.OneCall.{when-and-where}
 use Rattle.index.specs.Numbers.{endOf}
 use Rattle.index.specs.Bounds.{unlimited}
 use Rattle.index.specs.Walk.{Told, walked}
@@ -63,6 +64,7 @@ demand-2 =
       stands = where-messages-stand;
       offsets = table-is-the-ranges;
       readings = where-readings-differ;
+      one-call = when-and-where;
       starred = starred-hold;
       others = others-hold;
       each-refusal = witnesses-hold;

@@ -1,5 +1,6 @@
 -- The decoded fields of a listed section as the C face gives them: as numbers, with `known` of 1 or
--- 0 beside each that can be none (01, "Fields"); those of section 4 by the reading of a number.
+-- 0 beside each that can be none (01, "Fields"); those of section 4 by the reading of a number, all
+-- of them, and when and where alone.
 use mathlib.Core.List.{List, map}
 use Prim.Native.Nat.{ℕ}
 use lib.Dec.{eqb}
@@ -14,20 +15,21 @@ use Rattle.index.specs.Bounds.{unlimited}
 use Rattle.index.specs.Walk.{walked}
 use Rattle.index.specs.Decoded.{ownOctets, payloadOf}
 use Rattle.buttresk.specs.Fields as fields
-use Rattle.buttresk.specs.Product.{productFields}
+use Rattle.buttresk.specs.Product.{productFields, whenWhereFields}
 use Rattle.buttresk.specs.declared.fields.IndicatorFields.{IndicatorFields}
 use Rattle.buttresk.specs.declared.fields.IdentificationFields.{IdentificationFields}
 use Rattle.buttresk.specs.declared.fields.GridFields.{GridFields}
 use Rattle.buttresk.specs.declared.fields.RepresentationFields.{RepresentationFields}
 use Rattle.buttresk.specs.declared.fields.BitMapFields.{BitMapFields}
 use Rattle.buttresk.specs.declared.product.ProductFields.{ProductFields}
+use Rattle.buttresk.specs.declared.product.WhenWhereFields.{WhenWhereFields}
 
 -- the fields of one section
 pub data FaceFields : Type 0 where
   indicatorFace : IndicatorFields → FaceFields
   identificationFace : IdentificationFields → FaceFields
   gridFace : GridFields → FaceFields
-  productFace : ProductFields → FaceFields
+  productFace : ProductFields → WhenWhereFields → FaceFields
   representationFace : RepresentationFields → FaceFields
   bitMapFace : BitMapFields → FaceFields
   noFace : FaceFields
@@ -41,7 +43,8 @@ faceOf reading file s =
     (pick (eqb (s .number) 1)
     (identificationFace (fields.identificationFields (identificationOf payload)))
     (pick (eqb (s .number) 3) (gridFace (fields.gridFields (gridDefinitionOf payload)))
-    (pick (eqb (s .number) 4) (productFace (productFields reading payload))
+    (pick (eqb (s .number) 4)
+    (productFace (productFields reading payload) (whenWhereFields reading payload))
     (pick (eqb (s .number) 5)
     (representationFace (fields.representationFields (reprDefinitionOf payload)))
     (pick (eqb (s .number) 6) (bitMapFace (fields.bitMapFields (bitMapOf payload)))

@@ -3,8 +3,7 @@ use Prim.Native.Nat.{ℕ, _≤_}
 use mathlib.Core.Path.{_≡_}
 use mathlib.Core.List.{List}
 use lib.ListN.{length, take}
-use Rattle.products.specs.Rows.{TableIsTheRanges}
-use Rattle.products.specs.Agreement.{WhereReadingsDiffer}
+use Rattle.products.specs as products
 use Rattle.index.specs.Numbers.{endOf}
 use Rattle.index.specs.Bounds.{unlimited}
 use Rattle.index.specs.Walk.{walked}
@@ -64,8 +63,9 @@ pub record Demand2 : Type 0 where
   pub missing : HowMuchIsMissing  -- 02, Ticket 2: 2 tells an octet at least; each that comes counts
   pub starts : WhereMessagesStart  -- 02, Ticket 11: with 0 in every file; 11 is given inside alone
   pub stands : WhereMessagesStand  -- 02, Ticket 7: where its section 0 says, to its section 8's end
-  pub offsets : TableIsTheRanges  -- 02, Ticket 4: 1,102 rows as 01's ranges say; no index above
-  pub readings : WhereReadingsDiffer  -- 02, Ticket 6: in the time of 44 and the process of 47 alone
+  pub offsets : products.Rows.TableIsTheRanges  -- 02, Ticket 4: as 01's ranges say; no index above
+  pub readings : products.Agreement.WhereReadingsDiffer  -- 02, Ticket 6: 44's time, 47's process
+  pub one-call : products.OneCall.WhenAndWhere  -- 02, Ticket 12: each as before, and by itself
   pub starred : samples.StarredHold  -- document 01's samples, and walks that give each refusal
   pub others : samples.OthersHold
   pub each-refusal : witnesses.WitnessesHold

@@ -61,7 +61,7 @@ use Rattle.sections.specs.ReprDefinition.{reprDefinitionOf}
 use Rattle.sections.specs.BitMap.{bitMapOf}
 use Rattle.products.specs.Readings.{offsetsOf}
 use Rattle.products.specs.Rows.{offsetsBy}
-use Rattle.products.specs.Products.{productOf, productBy}
+use Rattle.products.specs.Products.{whenWhereOf, productOf, productBy}
 use Rattle.framing.specs.Framing.{framed, readAt}
 use Rattle.framing.specs.Search.{nextStart}
 use Rattle.order.specs.Order.{judged, judgedRead, completes, isBetween, orderOf}
@@ -93,7 +93,7 @@ use Rattle.buttresk.specs.Fields.{
   representationFields,
   bitMapFields,
 }
-use Rattle.buttresk.specs.Product.{productFields}
+use Rattle.buttresk.specs.Product.{productFields, whenWhereFields}
 use Rattle.buttresk.specs.Stores.{fiveOf}
 use Rattle.buttresk.specs.Lists.{readAnswerOf}
 use Rattle.promises.specs.Contract.{SeenIs, Promised}
@@ -138,8 +138,8 @@ pub record PublicFunctions (M : Type 1) : Type 2 where
       (λ (payload, _). reprDefinitionOf payload)
   pub BitMap-from-payload : Gives M 1 (lent 0 tt u8 ∷ []) BitMap.from_payload.clauses
       BitMap.from_payload.Symbol.routine (λ (payload, _). bitMapOf payload)
-  -- products: where a template holds what, and the product fields, by a reading of our table and of
-  -- a lent one
+  -- products: where a template holds what, when and where, and the product fields, by a reading of
+  -- our table and of a lent one
   pub products-offsets-at : Gives M 0 (value TemplateReading.the-row ∷ value u16 ∷ [])
       products.offsets_at.clauses products.offsets_at.Symbol.routine
       (λ (reading, (template, _)). offsetsOf reading template)
@@ -147,6 +147,9 @@ pub record PublicFunctions (M : Type 1) : Type 2 where
       Gives M 1 (lent 0 tt u32 ∷ value TemplateReading.the-row ∷ value u16 ∷ [])
       products.offsets_by.clauses products.offsets_by.Symbol.routine
       (λ (rows, (reading, (template, _))). offsetsBy rows reading template)
+  pub products-when-and-where : Gives M 1 (value TemplateReading.the-row ∷ lent 0 tt u8 ∷ [])
+      products.when_and_where.clauses products.when_and_where.Symbol.routine
+      (λ (reading, (payload, _)). whenWhereOf reading payload)
   pub products-product-of : Gives M 1 (value TemplateReading.the-row ∷ lent 0 tt u8 ∷ [])
       products.product_of.clauses products.product_of.Symbol.routine
       (λ (reading, (payload, _)). productOf reading payload)
@@ -317,6 +320,9 @@ pub record PublicFunctions (M : Type 1) : Type 2 where
       buttresk.buttresk_product_definition.clauses
       buttresk.buttresk_product_definition.Symbol.routine
       (λ (reading, (payload, _)). productFields reading payload)
+  pub buttresk-when-and-where : Gives M 1 (value u64 ∷ lent 0 tt u8 ∷ [])
+      buttresk.buttresk_when_and_where.clauses buttresk.buttresk_when_and_where.Symbol.routine
+      (λ (reading, (payload, _)). whenWhereFields reading payload)
   pub buttresk-representation : Gives M 1 (lent 0 tt u8 ∷ [])
       buttresk.buttresk_representation.clauses buttresk.buttresk_representation.Symbol.routine
       (λ (payload, _). representationFields (reprDefinitionOf payload))

@@ -11,16 +11,19 @@ use lib.Dec.{eqb, ltb}
 use lib.ListN.{length, getD}
 use Rattle.octets.specs.Words.{pick}
 use Rattle.octets.specs.BigEndian.{beAt}
+use Rattle.products.specs.declared.templates.TemplateReading.{TemplateReading}
 use Rattle.requests.specs.Requests.{walkRequestAt, pullRequestAt, intoRequestAt}
-use Rattle.requests.specs.Requests.{writeRequestAt, fieldsRequestAt, signedRequestAt, listRequestAt}
-use Rattle.requests.specs.Requests.{readBy, offsetsRequestAt}
+use Rattle.requests.specs.Requests.{writeRequestAt, payloadRequestAt, signedRequestAt, listRequestAt}
+use Rattle.requests.specs.Requests.{readingOf, readBy, offsetsRequestAt, whenWhere}
 use Rattle.requests.specs.declared.Writing.{Writing}
 use Rattle.requests.specs.declared.Request.{Request}
 use Rattle.requests.specs.declared.Request.the-variants.{Walk, Pull, Copy, Write}
 use Rattle.requests.specs.declared.Request.the-variants.{Fields, Signed, Inventory}
-use Rattle.requests.specs.declared.Request.the-variants.{Offsets, Bad}
+use Rattle.requests.specs.declared.Request.the-variants.{Offsets, WhenWhere, Bad}
 use Rattle.requests.specs.declared.Request.the-variants as request
-use Rattle.requests.proofs.Stands.{Stands, Roomed, Goes}
+use Rattle.requests.specs.declared.kinds.MaybeReading.{MaybeReading}
+use Rattle.requests.specs.declared.kinds.MaybeReading.the-variants.{Named, NoReading}
+use Rattle.requests.proofs.Stands.{Stands, Inside, Roomed, Goes}
 
 -- what holds of both answers of a test, each where the test says so, holds of the one picked
 pub pick-by : {A : Type 0} (P : A → Type 0) (t : Bool) {a b : A} → (t ≡ true → P a) → (t ≡ false → P b) → P (pick t a b)
@@ -150,21 +153,39 @@ write-stands s at =
       inside = inside;
     }))
 
--- `F`
-module _ (s : List ℕ) (at : ℕ) where
-  pub fields-cut : length s < at + 6 + beAt s (at + 2) 4 → Bad ≡ fieldsRequestAt s at
-  unfolding fieldsRequestAt
-  fields-cut h = simp (lt-ltb _ _ h)
+-- `F` and `T`; `size` is what its length says
+module _ (kind : ℕ → ℕ → ℕ → Request) (s : List ℕ) (at size : ℕ) (es : size ≡ beAt s (at + 2) 4) where
+  pub payload-cut : length s < at + 6 + size → Bad ≡ payloadRequestAt kind s at
+  unfolding payloadRequestAt
+  payload-cut h = simp (← es, lt-ltb _ _ h)
 
-  pub fields-whole : (size : ℕ) → size ≡ beAt s (at + 2) 4 → at + 6 + size ≤ length s → Fields (getD s (at + 1) 0) (at + 6) (at + 6 + size) ≡ fieldsRequestAt s at
-  unfolding fieldsRequestAt
-  fields-whole size e h = simp (← e, le-ltb _ _ h)
+  pub payload-whole : at + 6 + size ≤ length s
+      → kind (getD s (at + 1) 0) (at + 6) (at + 6 + size) ≡ payloadRequestAt kind s at
+  unfolding payloadRequestAt
+  payload-whole h = simp (← es, le-ltb _ _ h)
 
-  pub fields-stands : Stands s at (fieldsRequestAt s at)
-  unfolding fieldsRequestAt
-  fields-stands =
-      pick-by (Stands s at) (ltb (length s) (at + 6 + beAt s (at + 2) 4)) (λ e. tt) (λ e.
-      record { behind = omega arith; ordered = omega arith; within = ltb-false _ _ e })
+-- so of any kind whose requests stand where their octets do
+payload-stands : (kind : ℕ → ℕ → ℕ → Request) (s : List ℕ) (at : ℕ)
+    → ((number from to : ℕ) → Inside s at from to → Stands s at (kind number from to))
+    → Stands s at (payloadRequestAt kind s at)
+unfolding payloadRequestAt
+payload-stands kind s at so =
+    pick-by (Stands s at) (ltb (length s) (at + 6 + beAt s (at + 2) 4)) (λ e. tt) (λ e.
+    so _ _ _ (record { behind = omega arith; ordered = omega arith; within = ltb-false _ _ e }))
+
+pub fields-stands : (s : List ℕ) (at : ℕ) → Stands s at (payloadRequestAt Fields s at)
+fields-stands s at = payload-stands Fields s at (λ number from to h. h)
+
+-- what stands by every reading stands by the one of a number, or there is none
+read-by : (s : List ℕ) (at : ℕ) (request : TemplateReading → Request) (reading : MaybeReading)
+    → ((by : TemplateReading) → Stands s at (request by)) → Stands s at (readBy reading request)
+read-by s at request (Named reading) so = so reading
+read-by s at request NoReading so = tt
+
+pub when-where-stands : (s : List ℕ) (at : ℕ) → Stands s at (payloadRequestAt whenWhere s at)
+when-where-stands s at =
+    payload-stands whenWhere s at (λ number from to h.
+    read-by s at (λ by. WhenWhere by from to) (readingOf number) (λ by. h))
 
 -- `S`
 module _ (s : List ℕ) (at : ℕ) where
@@ -212,21 +233,16 @@ module _ (s : List ℕ) (at : ℕ) where
   unfolding offsetsRequestAt
   offsets-cut h = simp (lt-ltb _ _ h)
 
-  pub offsets-read : (number template : ℕ) → number ≡ getD s (at + 1) 0
-      → template ≡ beAt s (at + 2) 2 → at + 4 ≤ length s
-      → (readBy number λ reading. Offsets reading template (at + 4)) ≡ offsetsRequestAt s at
+  pub offsets-read : (reading : MaybeReading) (template : ℕ)
+      → reading ≡ readingOf (getD s (at + 1) 0) → template ≡ beAt s (at + 2) 2
+      → at + 4 ≤ length s
+      → (readBy reading λ by. Offsets by template (at + 4)) ≡ offsetsRequestAt s at
   unfolding offsetsRequestAt
-  offsets-read number template k e h = simp (← k, ← e, le-ltb _ _ h)
-
-  pub offsets-of-another-reading : (getD s (at + 1) 0 ≡ 0 → ⊥) → (getD s (at + 1) 0 ≡ 1 → ⊥)
-      → at + 4 ≤ length s → Bad ≡ offsetsRequestAt s at
-  unfolding offsetsRequestAt
-  offsets-of-another-reading k m h = simp (le-ltb _ _ h, ne-eqb _ _ k, ne-eqb _ _ m)
+  offsets-read reading template k e h = simp (← k, ← e, le-ltb _ _ h)
 
   pub offsets-stands : Stands s at (offsetsRequestAt s at)
   unfolding offsetsRequestAt
   offsets-stands =
       pick-by (Stands s at) (ltb (length s) (at + 4)) (λ e. tt) (λ e.
-      let goes : Goes s at (at + 4) = record { later = omega arith; inside = ltb-false _ _ e } in
-      pick-by (Stands s at) (eqb (getD s (at + 1) 0) 0) (λ f. goes) (λ f.
-      pick-by (Stands s at) (eqb (getD s (at + 1) 0) 1) (λ g. goes) (λ g. tt)))
+      read-by s at (λ by. Offsets by (beAt s (at + 2) 2) (at + 4)) (readingOf (getD s (at + 1) 0))
+      (λ by. record { later = omega arith; inside = ltb-false _ _ e }))

@@ -9,12 +9,13 @@ use Rattle.requests.specs.Requests.{requestAt, placeAfter}
 use Rattle.requests.specs.declared.Request.{Request}
 use Rattle.requests.specs.declared.Request.the-variants.{Walk, Pull, Copy, Write}
 use Rattle.requests.specs.declared.Request.the-variants.{Fields, Signed, Inventory}
-use Rattle.requests.specs.declared.Request.the-variants.{Offsets, Bad}
+use Rattle.requests.specs.declared.Request.the-variants.{Offsets, WhenWhere, Bad}
 use Rattle.requests.specs.declared.Request.the-variants as request
 use Rattle.requests.proofs.Stands.{Stands, Goes}
 use Rattle.requests.proofs.EachKind.{pick-by, walk-stands, pull-stands, copy-stands}
 use Rattle.requests.proofs.EachKind.{write-stands, fields-stands, signed-stands}
 use Rattle.requests.proofs.EachKind.{inventory-stands, list-stands, offsets-stands}
+use Rattle.requests.proofs.EachKind.{when-where-stands}
 
 -- every kind
 stands : (s : List ℕ) (at : ℕ) → Stands s at (requestAt s at)
@@ -29,7 +30,8 @@ stands s at =
     pick-by (Stands s at) (eqb (getD s at 0) 83) (λ e. signed-stands s at) (λ e.
     pick-by (Stands s at) (eqb (getD s at 0) 73) (λ e. inventory-stands s at) (λ e.
     pick-by (Stands s at) (eqb (getD s at 0) 82) (λ e. list-stands s at) (λ e.
-    pick-by (Stands s at) (eqb (getD s at 0) 79) (λ e. offsets-stands s at) (λ e. tt))))))))))
+    pick-by (Stands s at) (eqb (getD s at 0) 79) (λ e. offsets-stands s at) (λ e.
+    pick-by (Stands s at) (eqb (getD s at 0) 84) (λ e. when-where-stands s at) (λ e. tt)))))))))))
 
 -- the request that was read
 pub stands-at : (s : List ℕ) (at : ℕ) (r : Request) → requestAt s at ≡ r → Stands s at r
@@ -46,6 +48,7 @@ goes-by s at (Signed from to) h w = record { later = omega arith; inside = w .wi
 goes-by s at (Inventory d from to) h w = record { later = omega arith; inside = w .octets .within }
 goes-by s at (request.List m from to) h w = record { later = omega arith; inside = w .octets .within }
 goes-by s at (Offsets reading template to) h w = w
+goes-by s at (WhenWhere reading from to) h w = record { later = omega arith; inside = w .within }
 goes-by s at Bad h w = record { later = h; inside = omega arith }
 
 pub goes : (s : List ℕ) (at next : ℕ) → next ≡ placeAfter s (requestAt s at) → at < length s → Goes s at next

@@ -8,7 +8,7 @@ use Rattle.requests.specs.declared.Request.{Request}
 use Rattle.requests.specs.declared.Writing.{Writing}
 use Rattle.requests.specs.declared.Request.the-variants.{Walk, Pull, Copy, Write}
 use Rattle.requests.specs.declared.Request.the-variants.{Fields, Signed, Inventory}
-use Rattle.requests.specs.declared.Request.the-variants.{Offsets, Bad}
+use Rattle.requests.specs.declared.Request.the-variants.{Offsets, WhenWhere, Bad}
 use Rattle.requests.specs.declared.Request.the-variants as request
 
 -- octets from `from` up to `to` stand inside the input and behind the octet at `at`
@@ -50,4 +50,5 @@ Stands s at (Signed from to) = Inside s at from to
 Stands s at (Inventory d from to) = Roomed 262144 s at d from to
 Stands s at (request.List m from to) = Roomed 512 s at m from to
 Stands s at (Offsets reading template to) = Goes s at to
+Stands s at (WhenWhere reading from to) = Inside s at from to
 Stands s at Bad = Unit

@@ -12,10 +12,14 @@ use Rattle.requests.specs.declared.Request.{Request}
 use Rattle.requests.specs.declared.Writing.{Writing}
 use Rattle.requests.specs.declared.Request.the-variants.{Walk, Pull, Copy, Write}
 use Rattle.requests.specs.declared.Request.the-variants.{Fields, Signed, Inventory}
-use Rattle.requests.specs.declared.Request.the-variants.{Offsets, Bad}
+use Rattle.requests.specs.declared.Request.the-variants.{Offsets, WhenWhere, Bad}
 use Rattle.requests.specs.declared.Request.the-variants as request
 use Rattle.requests.specs.declared.kinds.FileInto.{FileInto}
 use Rattle.requests.specs.declared.kinds.FileInto.the-variants as into
+use Rattle.requests.specs.declared.kinds.NumberedPayload.{NumberedPayload}
+use Rattle.requests.specs.declared.kinds.NumberedPayload.the-variants as numbered
+use Rattle.requests.specs.declared.kinds.MaybeReading.{MaybeReading}
+use Rattle.requests.specs.declared.kinds.MaybeReading.the-variants.{Named, NoReading}
 
 -- a request that runs to `to`, unless the end of the input cuts it
 abbrev pub whole : List ℕ → ℕ → Request → Request
@@ -91,12 +95,17 @@ pub record Planned (input : List ℕ) (w : Writing) : Type 0 where
   pub within : w .end ≤ length input
   pub room : w .room ≤ 262144
 
--- `F`: section number (1); length (4); the payload
-unfoldable pub fieldsRequestAt : List ℕ → ℕ → Request
-fieldsRequestAt input at =
+-- `F` and `T`: section number, or reading (1); length (4); the payload
+unfoldable pub payloadRequestAt : (ℕ → ℕ → ℕ → Request) → List ℕ → ℕ → Request
+payloadRequestAt kind input at =
     let from = at + 6 in
     let to = from + beAt input (at + 2) 4 in
-    whole input to (Fields (getD input (at + 1) 0) from to)
+    whole input to (kind (getD input (at + 1) 0) from to)
+
+-- the request of one of these kinds, of what is read alike for both
+abbrev pub requestOf : (ℕ → ℕ → ℕ → Request) → NumberedPayload → Request
+requestOf kind (numbered.Whole number from to) = kind number from to
+requestOf kind numbered.Bad = Bad
 
 -- `S`: length (1); the octets
 unfoldable pub signedRequestAt : List ℕ → ℕ → Request
@@ -113,31 +122,41 @@ listRequestAt input at =
     let to = from + beAt input (at + 3) 4 in
     whole input to (upTo 512 m (request.List m from to))
 
--- a request by the reading of a number: 0 as the crate, 1 by the Manual; by another it is bad
-abbrev pub readBy : ℕ → (TemplateReading → Request) → Request
-readBy number request =
-    pick (eqb number 0) (request AsCrate) (pick (eqb number 1) (request ByManual) Bad)
+-- the reading of a number: 0 as the crate, 1 by the Manual, and no other
+unfoldable pub readingOf : ℕ → MaybeReading
+readingOf number =
+    pick (eqb number 0) (Named AsCrate) (pick (eqb number 1) (Named ByManual) NoReading)
+
+-- a request by a reading; without one it is bad
+abbrev pub readBy : MaybeReading → (TemplateReading → Request) → Request
+readBy (Named reading) request = request reading
+readBy NoReading request = Bad
 
 -- `O`: reading (1); template number (2)
 unfoldable pub offsetsRequestAt : List ℕ → ℕ → Request
 offsetsRequestAt input at =
     let to = at + 4 in
     whole input to
-    (readBy (getD input (at + 1) 0) λ reading. Offsets reading (beAt input (at + 2) 2) to)
+    (readBy (readingOf (getD input (at + 1) 0)) λ reading. Offsets reading (beAt input (at + 2) 2) to)
+
+-- of a payload by the reading of a number
+abbrev pub whenWhere : ℕ → ℕ → ℕ → Request
+whenWhere number from to = readBy (readingOf number) λ reading. WhenWhere reading from to
 
 -- the request of a kind octet at `at`: 87 is `W`, 80 is `P`, 67 is `C`, 77 is `M`, 70 is `F`, 83 is
--- `S`, 73 is `I`, 82 is `R`, 79 is `O`, another kind is bad
+-- `S`, 73 is `I`, 82 is `R`, 79 is `O`, 84 is `T`, another kind is bad
 abbrev pub ofKind : ℕ → List ℕ → ℕ → Request
 ofKind kind input at =
     pick (eqb kind 87) (walkRequestAt input at)
     (pick (eqb kind 80) (pullRequestAt input at)
     (pick (eqb kind 67) (intoRequestAt Copy input at)
     (pick (eqb kind 77) (writeRequestAt input at)
-    (pick (eqb kind 70) (fieldsRequestAt input at)
+    (pick (eqb kind 70) (payloadRequestAt Fields input at)
     (pick (eqb kind 83) (signedRequestAt input at)
     (pick (eqb kind 73) (intoRequestAt Inventory input at)
     (pick (eqb kind 82) (listRequestAt input at)
-    (pick (eqb kind 79) (offsetsRequestAt input at) Bad))))))))
+    (pick (eqb kind 79) (offsetsRequestAt input at)
+    (pick (eqb kind 84) (payloadRequestAt whenWhere input at) Bad)))))))))
 
 -- the request at `at`; where the input has no octet, a bad one
 unfoldable pub requestAt : List ℕ → ℕ → Request
@@ -154,4 +173,5 @@ placeAfter input (Signed from to) = to
 placeAfter input (Inventory d from to) = to
 placeAfter input (request.List m from to) = to
 placeAfter input (Offsets reading template to) = to
+placeAfter input (WhenWhere reading from to) = to
 placeAfter input Bad = length input

@@ -5,10 +5,11 @@ ghost use mathlib.Core.Path.{_≡_};
 ghost use Prim.Native.Nat.{ℕ, _<_};
 ghost use lib.ListN.{length};
 ghost use Rattle.requests.specs.Requests.{walkRequestAt, pullRequestAt, intoRequestAt};
-ghost use Rattle.requests.specs.Requests.{writeRequestAt, fieldsRequestAt, signedRequestAt};
+ghost use Rattle.requests.specs.Requests.{writeRequestAt, payloadRequestAt, signedRequestAt};
 ghost use Rattle.requests.specs.Requests.{listRequestAt, offsetsRequestAt, requestInto};
+ghost use Rattle.requests.specs.Requests.{requestOf, readingOf, whenWhere};
 ghost use Rattle.requests.specs.declared.Request.{Request};
-ghost use Rattle.requests.specs.declared.Request.the-variants.{Copy, Inventory};
+ghost use Rattle.requests.specs.declared.Request.the-variants.{Copy, Inventory, Fields};
 use crate::Request;
 use crate::Writing;
 use crate::numbers::four_octets;
@@ -33,8 +34,8 @@ const ROW_SIZE: usize = 24;
 // Octets of the length of a store, and of that of a destination behind it.
 const LENGTH_SIZE: usize = 4;
 
-// Octets before a payload: kind, section number, length.
-const FIELDS_HEAD: usize = 6;
+// Octets before a payload: kind, section number or reading, length.
+const PAYLOAD_HEAD: usize = 6;
 
 // Octets before a signed number's: kind, length.
 const SIGNED_HEAD: usize = 2;
@@ -66,6 +67,17 @@ const BY_MANUAL: u8 = 1;
 pub(crate) enum FileInto {
     Whole { room: u32, from: usize, to: usize },
     Bad,
+}
+
+// The payload of a request, and the number before it.
+pub(crate) enum NumberedPayload {
+    Whole { number: u8, from: usize, to: usize },
+    Bad,
+}
+
+pub(crate) enum MaybeReading {
+    Named(TemplateReading),
+    NoReading,
 }
 
 // Numbers (2); lines (2); length (4); the file.
@@ -201,20 +213,46 @@ pub(crate) fn write_request_at(input: &[u8], at: usize) -> Request
     })
 }
 
-// Section number (1); length (4); the payload.
 pub(crate) fn fields_request_at(input: &[u8], at: usize) -> Request
     requires { ⌜ at < length (now input) ⌝ }
-    ensures { λ r. ⌜ r ≡ fieldsRequestAt (now (input .entry)) at ⌝ }
+    ensures { λ r. ⌜ r ≡ payloadRequestAt Fields (now (input .entry)) at ⌝ }
 {
-    if input.len() - at < FIELDS_HEAD {
-        return Request::Bad;
+    let payload = payload_at(input, at);
+    match payload {
+        NumberedPayload::Whole { number, from, to } => Request::Fields { number, from, to },
+        NumberedPayload::Bad => Request::Bad,
     }
-    let from = at + FIELDS_HEAD;
+}
+
+pub(crate) fn when_where_request_at(input: &[u8], at: usize) -> Request
+    requires { ⌜ at < length (now input) ⌝ }
+    ensures { λ r. ⌜ r ≡ payloadRequestAt whenWhere (now (input .entry)) at ⌝ }
+{
+    let payload = payload_at(input, at);
+    let NumberedPayload::Whole { number, from, to } = payload else {
+        return Request::Bad;
+    };
+    let MaybeReading::Named(reading) = reading_of(number) else {
+        return Request::Bad;
+    };
+    Request::WhenWhere { reading, from, to }
+}
+
+// Section number, or reading (1); length (4); the payload.
+fn payload_at(input: &[u8], at: usize) -> NumberedPayload
+    requires { ⌜ at < length (now input) ⌝ }
+    ensures { λ r. ⌜ ((kind : ℕ → ℕ → ℕ → Request)
+        → requestOf kind r ≡ payloadRequestAt kind (now (input .entry)) at) ⌝ }
+{
+    if input.len() - at < PAYLOAD_HEAD {
+        return NumberedPayload::Bad;
+    }
+    let from = at + PAYLOAD_HEAD;
     let size = four_octets(input, at + 2) as usize;
     if input.len() - from < size {
-        return Request::Bad;
+        return NumberedPayload::Bad;
     }
-    Request::Fields {
+    NumberedPayload::Whole {
         number: input[at + 1],
         from,
         to: from + size,
@@ -272,19 +310,23 @@ pub(crate) fn offsets_request_at(input: &[u8], at: usize) -> Request
     if input.len() - at < OFFSETS_HEAD {
         return Request::Bad;
     }
-    let template = two_octets(input, at + 2);
-    let to = at + OFFSETS_HEAD;
-    match input[at + 1] {
-        AS_CRATE => Request::Offsets {
-            reading: TemplateReading::AsCrate,
-            template,
-            to,
-        },
-        BY_MANUAL => Request::Offsets {
-            reading: TemplateReading::ByManual,
-            template,
-            to,
-        },
-        _ => Request::Bad,
+    let MaybeReading::Named(reading) = reading_of(input[at + 1]) else {
+        return Request::Bad;
+    };
+    Request::Offsets {
+        reading,
+        template: two_octets(input, at + 2),
+        to: at + OFFSETS_HEAD,
+    }
+}
+
+// The reading of templates that a number names.
+fn reading_of(number: u8) -> MaybeReading
+    ensures { λ r. ⌜ r ≡ readingOf number ⌝ }
+{
+    match number {
+        AS_CRATE => MaybeReading::Named(TemplateReading::AsCrate),
+        BY_MANUAL => MaybeReading::Named(TemplateReading::ByManual),
+        _ => MaybeReading::NoReading,
     }
 }

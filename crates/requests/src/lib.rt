@@ -13,6 +13,7 @@ use kinds::offsets_request_at;
 use kinds::pull_request_at;
 use kinds::signed_request_at;
 use kinds::walk_request_at;
+use kinds::when_where_request_at;
 use kinds::write_request_at;
 use products::TemplateReading;
 
@@ -33,6 +34,8 @@ const INVENTORY: u8 = b'I';
 const LIST: u8 = b'R';
 
 const OFFSETS: u8 = b'O';
+
+const WHEN_WHERE: u8 = b'T';
 
 // A request's octets are those of the input from `from` up to `to`, where the next request starts.
 pub enum Request {
@@ -81,6 +84,12 @@ pub enum Request {
         template: u16,
         to: usize,
     },
+    // Of a payload of section 4, by a reading.
+    WhenWhere {
+        reading: TemplateReading,
+        from: usize,
+        to: usize,
+    },
     // Of another kind, of another reading, with a number over its limit, or cut by the end of the
     // input: nothing after it can be told.
     Bad,
@@ -123,6 +132,7 @@ pub fn request_at(input: &[u8], at: usize) -> Request
         INVENTORY => inventory_request_at(input, at),
         LIST => list_request_at(input, at),
         OFFSETS => offsets_request_at(input, at),
+        WHEN_WHERE => when_where_request_at(input, at),
         _ => Request::Bad,
     }
 }

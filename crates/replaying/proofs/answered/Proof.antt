@@ -104,6 +104,18 @@ enum-known-request-9 c = search needs
 answer-offsets-requires : tie.Need-answer-offsets-requires
 answer-offsets-requires c κs = search needs
 
+enum-known-request-10 : tie.Need-enum-known-request-10
+enum-known-request-10 c = search needs
+
+between-requires-8 : tie.Need-between-requires-8
+between-requires-8 c κs =
+    let read = c .before .before .before in
+    let w = stands-at _ _ _ (sym (read .request-at .ensures) ∙ c .before .request10 .given .1) in
+    (w .ordered, w .within)
+
+answer-when-where-requires : tie.Need-answer-when-where-requires
+answer-when-where-requires c κs = search needs
+
 enum-told : tie.Need-enum-told
 enum-told c = search needs
 
@@ -140,7 +152,12 @@ returns-9 c =
     sym (told .request9 .given .1) ∙ told .before .before .request-at .ensures
 
 returns-10 : tie.Need-returns-10
-returns-10 c = search needs
+returns-10 c =
+    let told = c .before .before .before in
+    sym (told .request10 .given .1) ∙ told .before .before .request-at .ensures
+
+returns-11 : tie.Need-returns-11
+returns-11 c = search needs
 
 pub answered-spec : {M : Type 1} → statement M
 answered-spec =
@@ -172,6 +189,9 @@ answered-spec =
     answer-list-requires
     enum-known-request-9
     answer-offsets-requires
+    enum-known-request-10
+    between-requires-8
+    answer-when-where-requires
     enum-told
     answer-bad-requires
     returns
@@ -183,4 +203,5 @@ answered-spec =
     returns-7
     returns-8
     returns-9
-    returns-10)
+    returns-10
+    returns-11)

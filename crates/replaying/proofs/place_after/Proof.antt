@@ -31,6 +31,9 @@ enum-known-request-8 c = search needs
 enum-known-request-9 : tie.Need-enum-known-request-9
 enum-known-request-9 c = search needs
 
+enum-known-request-10 : tie.Need-enum-known-request-10
+enum-known-request-10 c = search needs
+
 enum-told : tie.Need-enum-told
 enum-told c = search needs
 
@@ -72,7 +75,11 @@ returns-9 c = rw (c .before .request9 .given .1)
 
 returns-10 : tie.Need-returns-10
 unfolding placeAfter
-returns-10 c = rw (c .enum-told .given .1)
+returns-10 c = rw (c .before .request10 .given .1)
+
+returns-11 : tie.Need-returns-11
+unfolding placeAfter
+returns-11 c = rw (c .enum-told .given .1)
 
 pub place-after-spec : {M : Type 1} → statement M
 place-after-spec =
@@ -87,6 +94,7 @@ place-after-spec =
     enum-known-request-7
     enum-known-request-8
     enum-known-request-9
+    enum-known-request-10
     enum-told
     returns
     returns-2
@@ -97,4 +105,5 @@ place-after-spec =
     returns-7
     returns-8
     returns-9
-    returns-10)
+    returns-10
+    returns-11)

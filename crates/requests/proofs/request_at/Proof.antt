@@ -40,6 +40,9 @@ list-request-at-requires c κs = search needs
 offsets-request-at-requires : tie.Need-offsets-request-at-requires
 offsets-request-at-requires c κs = search needs
 
+when-where-request-at-requires : tie.Need-when-where-request-at-requires
+when-where-request-at-requires c κs = search needs
+
 returns-2 : tie.Need-returns-2
 unfolding requestAt
 returns-2 c = c .walk-request-at .ensures ∙ simp (lt-leb _ _ (c .before .before .before .if1 .left), c .before .match .keys1)
@@ -82,6 +85,13 @@ returns-10 c =
 returns-11 : tie.Need-returns-11
 unfolding requestAt
 returns-11 c =
+    let found = c .before in
+    c .when-where-request-at .ensures
+    ∙ simp (lt-leb _ _ (found .before .before .if1 .left), found .match .keys10)
+
+returns-12 : tie.Need-returns-12
+unfolding requestAt
+returns-12 c =
     let r = c .match .rest in
     simp (
       lt-leb _ _ (c .before .before .if1 .left),
@@ -94,6 +104,7 @@ returns-11 c =
       ne-eqb _ _ (r .0 .0 .0 .0 .0 .0 .1),
       ne-eqb _ _ (r .0 .0 .0 .0 .0 .0 .0 .1),
       ne-eqb _ _ (r .0 .0 .0 .0 .0 .0 .0 .0 .1),
+      ne-eqb _ _ (r .0 .0 .0 .0 .0 .0 .0 .0 .0 .1),
     )
 
 pub request-at-spec : {M : Type 1} → statement M
@@ -111,6 +122,7 @@ request-at-spec =
     inventory-request-at-requires
     list-request-at-requires
     offsets-request-at-requires
+    when-where-request-at-requires
     returns-2
     returns-3
     returns-4
@@ -120,4 +132,5 @@ request-at-spec =
     returns-8
     returns-9
     returns-10
-    returns-11)
+    returns-11
+    returns-12)

@@ -1,60 +1,26 @@
--- `kinds::fields_request_at` meets its contract: the end of the input cuts the numbers, or the
--- payload, or nothing.
-use native.Mathlib.Omega.{arith}
+-- `kinds::fields_request_at` meets its contract: what was read for both kinds, as one for fields.
+use mathlib.Core.Path.{ap, sym, _∙_}
 use borrow.Author.Needs.{needs}
-use Rattle.requests.proofs.EachKind.{fields-cut, fields-whole}
+use Rattle.requests.specs.Requests.{requestOf}
+use Rattle.requests.specs.declared.Request.the-variants.{Fields}
 use Rattle.requests.proofs.kinds.fields_request_at.Statement.{statement}
 use Rattle.requests.proofs.kinds.fields_request_at.Tie as tie
 
-sub-if1 : tie.Need-sub-if1
-sub-if1 c = search needs
+payload-at-requires : tie.Need-payload-at-requires
+payload-at-requires c κs = search needs
+
+enum-known-payload : tie.Need-enum-known-payload
+enum-known-payload c = search needs
+
+enum-told : tie.Need-enum-told
+enum-told c = search needs
 
 returns : tie.Need-returns
-returns c = fields-cut _ _ (omega arith)
-
-add-from : tie.Need-add-from
-add-from c = search needs
-
-add-four-octets : tie.Need-add-four-octets
-add-four-octets c = search needs
-
-four-octets-requires : tie.Need-four-octets-requires
-four-octets-requires c κs = search needs
-
-cast-size : tie.Need-cast-size
-cast-size c = search needs
-
-sub-if2 : tie.Need-sub-if2
-sub-if2 c = search needs
+returns c = ap (requestOf Fields) (sym (c .before .payload .given .1)) ∙ c .before .before .before .payload-at .ensures Fields
 
 returns-2 : tie.Need-returns-2
-returns-2 c = fields-cut _ _ (omega (arith, c .before .four-octets .ensures))
-
-add-t6 : tie.Need-add-t6
-add-t6 c = search needs
-
-shared-slice-read-t10 : tie.Need-shared-slice-read-t10
-shared-slice-read-t10 c = search needs
-
-add-t5 : tie.Need-add-t5
-add-t5 c = search needs
-
-returns-3 : tie.Need-returns-3
-returns-3 c = fields-whole _ _ _ (c .before .before .four-octets .ensures) (omega arith)
+returns-2 c = ap (requestOf Fields) (sym (c .enum-told .given .1)) ∙ c .before .before .payload-at .ensures Fields
 
 pub fields-request-at-spec : {M : Type 1} → statement M
 fields-request-at-spec =
-    tie.close
-    (tie.spec
-    sub-if1
-    returns
-    add-from
-    add-four-octets
-    four-octets-requires
-    cast-size
-    sub-if2
-    returns-2
-    add-t6
-    shared-slice-read-t10
-    add-t5
-    returns-3)
+    tie.close (tie.spec payload-at-requires enum-known-payload enum-told returns returns-2)

@@ -1,0 +1,4 @@
+// `replay` over the stored list of times and surfaces, when and where.
+fn main() {
+    replaying::answer_requests();
+}
