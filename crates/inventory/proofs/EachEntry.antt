@@ -24,7 +24,14 @@ use Rattle.index.specs.declared.line.Line.{Line}
 use Rattle.index.proofs.Rows.{rows-are-laid-out}
 use Rattle.index.proofs.Pins.{lines-are-pinned}
 use Rattle.entries.specs.declared.Entry.{Entry}
-use Rattle.inventory.specs.Inventory.{firstSurface, forEach, indicatorIn, entryWith, entryAt, entriesOf}
+use Rattle.inventory.specs.Inventory.{
+  firstSurface,
+  forEach,
+  indicatorIn,
+  entryWith,
+  entryAt,
+  entriesOf,
+}
 use Rattle.inventory.specs.Laws.{behindHeader, PinnedEntry, EachTwo, EachLineHasItsEntry}
 use Rattle.inventory.proofs.Remembered.{StandsThere, entry-at}
 
@@ -33,41 +40,55 @@ drop-take : (k n : ℕ) (l : List ℕ) → drop k (take n l) ≡ take (n - k) (d
 drop-take zero n l = let same : n - 0 ≡ n = omega arith in rw same
 drop-take (suc k) zero l = let none : 0 - suc k ≡ 0 = omega arith in rw none
 drop-take (suc k) (suc n) [] = sym (take-nil (suc n - suc k))
-drop-take (suc k) (suc n) (x ∷ l) = let less : suc n - suc k ≡ n - k = omega arith in rw less (drop-take k n l)
+drop-take (suc k) (suc n) (x ∷ l) =
+    let less : suc n - suc k ≡ n - k = omega arith in rw less (drop-take k n l)
 
 payload-behind : (file : List ℕ) (s : Section) → payloadOf file s ≡ behindHeader file s
 unfolding payloadOf ownOctets
 payload-behind file s =
-    drop-take 5 (s .length) (drop (s .offset .0) file) ∙ ap (take (s .length - 5)) (drop-drop 5 (s .offset .0) file)
+    drop-take 5 (s .length) (drop (s .offset .0) file)
+    ∙ ap (take (s .length - 5)) (drop-drop 5 (s .offset .0) file)
 
 module _ (file : List ℕ) where
   -- a section 0 has its 16 octets
   abbrev pub WholeIndicator : Section → Type 0
   WholeIndicator s = (s .length ≡ 16) × (s .offset .0 + 16 ≤ length file)
 
-  pub whole-indicator : {at rest : ℕ} {told : List Section} → LaidOut file at rest told → (p : ℕ) → ToldAt told 0 p → WholeIndicator (toldAt told p)
+  pub whole-indicator : {at rest : ℕ} {told : List Section} → LaidOut file at rest told → (p : ℕ)
+      → ToldAt told 0 p → WholeIndicator (toldAt told p)
   whole-indicator nothingMore p (inside, number) = absurd (omega arith)
   whole-indicator (indicatorNext first total more) zero there = (refl, first .1 .0)
-  whole-indicator (indicatorNext first total more) (suc p) (inside, number) = whole-indicator more p (omega arith, number)
+  whole-indicator (indicatorNext first total more) (suc p) (inside, number) =
+      whole-indicator more p (omega arith, number)
   whole-indicator (endNext mark more) zero (inside, number) = absurd (omega arith)
-  whole-indicator (endNext mark more) (suc p) (inside, number) = whole-indicator more p (omega arith, number)
-  whole-indicator (headedNext some other bounds whole left more) zero (inside, number) = let low = bounds .0 in absurd (omega arith)
-  whole-indicator (headedNext some other bounds whole left more) (suc p) (inside, number) = whole-indicator more p (omega arith, number)
+  whole-indicator (endNext mark more) (suc p) (inside, number) =
+      whole-indicator more p (omega arith, number)
+  whole-indicator (headedNext some other bounds whole left more) zero (inside, number) =
+      let low = bounds .0 in absurd (omega arith)
+  whole-indicator (headedNext some other bounds whole left more) (suc p) (inside, number) =
+      whole-indicator more p (omega arith, number)
 
   -- and says its discipline in octet 7
   abbrev saidBy : Section → Indicator
-  saidBy s = record { discipline = getD file (s .offset .0 + 6) 0; total = beAt (ownOctets file s) 8 8 }
+  saidBy s = record {
+    discipline = getD file (s .offset .0 + 6) 0;
+    total = beAt (ownOctets file s) 8 8;
+  }
 
-  indicator-says : (s : Section) → WholeIndicator s → indicatorOf (ownOctets file s) ≡ Fields (saidBy s)
+  indicator-says : (s : Section) → WholeIndicator s
+      → indicatorOf (ownOctets file s) ≡ Fields (saidBy s)
   unfolding indicatorOf ownOctets
   indicator-says s (size, room) =
       let own = take (s .length) (drop (s .offset .0) file) in
-      let long : length own ≡ s .length = length-take-le (s .length) (drop (s .offset .0) file) (simp length-drop (omega arith)) in
+      let long : length own ≡ s .length =
+      length-take-le (s .length) (drop (s .offset .0) file) (simp length-drop (omega arith)) in
       let seventh : getD own 6 0 ≡ getD file (s .offset .0 + 6) 0 =
-      getD-take (s .length) (drop (s .offset .0) file) 6 0 (omega arith) ∙ getD-drop (s .offset .0) file 6 0 in
+      getD-take (s .length) (drop (s .offset .0) file) 6 0 (omega arith)
+      ∙ getD-drop (s .offset .0) file 6 0 in
       rw (le-ltb (length own) 16 (omega arith), seventh)
 
-stands-told : (told : List Section) (number p : ℕ) → ToldAt told number p → StandsThere told number p (toldAt told p)
+stands-told : (told : List Section) (number p : ℕ) → ToldAt told number p
+    → StandsThere told number p (toldAt told p)
 stands-told told number p (inside, is) =
     record { there = ap (take 1) (drop-cons told p (unlisted .section) inside); number-is = is }
 
@@ -77,7 +98,8 @@ record HasEntry (file : List ℕ) (told : List Section) (line : Line) : Type 0 w
   alone : entryAt (decoded file told) line ≡ entry ∷ []
   pinned : PinnedEntry file told line entry
 
-has-entry : (file : List ℕ) (told : List Section) → LaidOut file 0 0 told → (line : Line) → PinnedLine file told line → HasEntry file told line
+has-entry : (file : List ℕ) (told : List Section) → LaidOut file 0 0 told → (line : Line)
+    → PinnedLine file told line → HasEntry file told line
 unfolding indicatorIn productOf
 has-entry file told laid line pins =
     let zeroth = pins .indicator .there in
@@ -89,7 +111,8 @@ has-entry file told laid line pins =
     record {
       entry = entryWith line (saidBy file z) product;
       alone =
-          entry-at file told line (stands-told told 0 (line .indicator .0) zeroth) (stands-told told 4 (line .product .0) fourth)
+          entry-at file told line (stands-told told 0 (line .indicator .0) zeroth)
+          (stands-told told 4 (line .product .0) fourth)
           ∙ rw (indicator-says file z (whole-indicator file laid (line .indicator .0) zeroth));
       pinned =
           record {
@@ -108,8 +131,10 @@ has-entry file told laid line pins =
     }
 
 -- for each line
-each-two : (file : List ℕ) (told : List Section) (lines : List Line) → ((line : Line) → PinnedLine file told line → HasEntry file told line)
-    → Every (PinnedLine file told) lines → EachTwo (PinnedEntry file told) lines (forEach lines (entryAt (decoded file told)))
+each-two : (file : List ℕ) (told : List Section) (lines : List Line)
+    → ((line : Line) → PinnedLine file told line → HasEntry file told line)
+    → Every (PinnedLine file told) lines
+    → EachTwo (PinnedEntry file told) lines (forEach lines (entryAt (decoded file told)))
 each-two file told [] has pins = tt
 each-two file told (line ∷ lines) has (pin, pins) =
     let one = has line pin in rw (one .alone) (one .pinned, each-two file told lines has pins)
@@ -118,4 +143,6 @@ pub each-line-has-its-entry : EachLineHasItsEntry
 unfolding entriesOf
 each-line-has-its-entry file =
     let walk = walked unlimited file in
-    each-two file (walk .sections) (walk .lines) (has-entry file (walk .sections) (rows-are-laid-out unlimited file)) (lines-are-pinned unlimited file)
+    each-two file (walk .sections) (walk .lines)
+    (has-entry file (walk .sections) (rows-are-laid-out unlimited file))
+    (lines-are-pinned unlimited file)

@@ -53,7 +53,9 @@ as-before =
     }
 
 each-by-itself : EachByItself
-unfolding whenWhereOf beAt offsetsOf asCrate byReading processesByManual widthsByManual octetsIn processIndex processes timeIndex times surfacesIndex surfaces forecastOf fixedOf supportedOf isSupported supportedTemplates timeOf surfacesOf surfaceOf signedOf
+unfolding whenWhereOf beAt offsetsOf asCrate byReading processesByManual widthsByManual octetsIn
+    processIndex processes timeIndex times surfacesIndex surfaces forecastOf fixedOf
+    supportedOf isSupported supportedTemplates timeOf surfacesOf surfaceOf signedOf
 each-by-itself =
     record {
       of-32 = by (telling 32 8 (1 ∷ 0 ∷ 0 ∷ 0 ∷ 6 ∷ twoSurfaces)) refl refl;

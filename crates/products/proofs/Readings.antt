@@ -10,7 +10,7 @@ use lib.ListN.{length}
 use borrow.Author.Tests.{leb-true}
 use Rattle.octets.specs.Words.{pick, Not}
 use Rattle.octets.specs.BigEndian.{beAt}
-use Rattle.products.specs.Ranges.{Range, _to_is_, lookup}
+use Rattle.products.specs.Ranges.{_to_is_, lookup}
 use Rattle.octets.specs.Signed.{signedOf}
 use Rattle.products.specs.Templates.{
   supportedTemplates,
@@ -45,7 +45,14 @@ use Rattle.products.specs.Products.{
   fixedOf,
   productOf,
 }
-use Rattle.products.specs.Agreement.{Agreement, dust, twoSurfaces, At44, At47, WhereReadingsDiffer}
+use Rattle.products.specs.Agreement.{
+  Agreement,
+  dust,
+  twoSurfaces,
+  At44,
+  At47,
+  WhereReadingsDiffer,
+}
 use Rattle.products.specs.declared.Supported.{Supported}
 use Rattle.products.specs.declared.Supported.the-variants.{Template, NoTemplate}
 use Rattle.products.specs.declared.templates.Index.{Index}
@@ -56,7 +63,6 @@ use Rattle.products.specs.declared.templates.TemplateReading.{TemplateRe
 use Rattle.products.specs.declared.templates.TemplateReading.the-variants.{AsCrate, ByManual}
 use Rattle.products.specs.declared.templates.Offsets.{Offsets}
 use Rattle.products.specs.declared.MaybeOctet.the-variants.{NoOctet}
-use Rattle.products.specs.declared.MaybeTime.{MaybeTime}
 use Rattle.products.specs.declared.MaybeTime.the-variants.{NoTime}
 
 -- of both readings, if of each
@@ -75,7 +81,9 @@ process-of Absent = 0
 
 -- what is said of 44 and of 47, and of payloads of theirs, is computed
 pub at-44 : At44
-unfolding beAt octets-of offsetsOf asCrate byReading processesByManual widthsByManual octetsIn processIndex processes timeIndex times surfacesIndex surfaces forecastOf fixedOf supportedOf isSupported supportedTemplates timeOf surfacesOf surfaceOf signedOf
+unfolding beAt octets-of offsetsOf asCrate byReading processesByManual widthsByManual octetsIn
+    processIndex processes timeIndex times surfacesIndex surfaces forecastOf fixedOf
+    supportedOf isSupported supportedTemplates timeOf surfacesOf surfaceOf signedOf
 at-44 =
     record {
       by-manual = refl;
@@ -83,7 +91,8 @@ at-44 =
       differ = λ e. subst (λ (n : ℕ). T (eqb n 2)) (ap octets-of e) tt;
       whole-by-manual = refl;
       whole-as-crate = refl;
-      surfaces = in-both (λ (r : TemplateReading). fixedOf r (dust (0 ∷ 6 ∷ twoSurfaces))) refl refl;
+      surfaces =
+          in-both (λ (r : TemplateReading). fixedOf r (dust (0 ∷ 6 ∷ twoSurfaces))) refl refl;
       ended-by-manual = refl;
       ended-as-crate = refl;
       ended-surfaces = in-both (λ (r : TemplateReading). fixedOf r (dust (0 ∷ 6 ∷ []))) refl refl;
@@ -92,12 +101,15 @@ at-44 =
     }
 
 pub at-47 : At47
-unfolding beAt process-of offsetsOf asCrate byReading processesByManual widthsByManual processIndex processes timeIndex times surfacesIndex surfaces processOf supportedOf isSupported supportedTemplates octetOf
+unfolding beAt process-of offsetsOf asCrate byReading processesByManual widthsByManual processIndex
+    processes timeIndex times surfacesIndex surfaces processOf supportedOf isSupported
+    supportedTemplates octetOf
 at-47 =
     record {
       by-manual = refl;
       as-crate = refl;
-      differ = λ e. subst (λ (n : ℕ). T (eqb n 15)) (ap (λ (o : Offsets). process-of (o .process)) e) tt;
+      differ =
+          λ e. subst (λ (n : ℕ). T (eqb n 15)) (ap (λ (o : Offsets). process-of (o .process)) e) tt;
       long-by-manual = refl;
       long-as-crate = refl;
       short-by-manual = refl;
@@ -125,7 +137,8 @@ same-width other n ne = beside other _ 44 n ne
 -- nothing else is corrected
 pub elsewhere : (n : ℕ) (o : Offsets) → Not (n ≡ 44) → Not (n ≡ 47) → byReading ByManual n o ≡ o
 unfolding byReading
-elsewhere n o width process = rw (same-process (o .process) n process, same-width (o .width) n width)
+elsewhere n o width process =
+    rw (same-process (o .process) n process, same-width (o .width) n width)
 
 -- two answers by a payload's template are one, if they are for its number
 one-answer : {A : Type 0} (none : A) (f g : ℕ → A) (s : List ℕ) → f (beAt s 2 2) ≡ g (beAt s 2 2)

@@ -31,7 +31,6 @@ use Rattle.products.specs.declared.templates.Index.the-variants.{At, Abs
 use Rattle.products.specs.declared.templates.TimeOctets.{TimeOctets}
 use Rattle.products.specs.declared.templates.TimeOctets.the-variants.{Two, Four}
 use Rattle.products.specs.declared.templates.TemplateReading.{TemplateReading}
-use Rattle.products.specs.declared.templates.Offsets.{Offsets}
 use Rattle.products.specs.declared.Supported.{Supported}
 use Rattle.products.specs.declared.Supported.the-variants.{Template, NoTemplate}
 use Rattle.products.specs.declared.MaybeOctet.{MaybeOctet}
@@ -68,20 +67,24 @@ module _ {A : Type 0} (In : A → Type 0) {none : A} (fine : In none) {f : ℕ �
   by-template index (Template n) = at-index n (index n)
   by-template index NoTemplate = fine
 
-module _ (In : MaybeOctet → Type 0) (fine : In NoOctet) (octet : (n : ℕ) → n ≤ 255 → In (Octet n)) where
+module _ (In : MaybeOctet → Type 0) (fine : In NoOctet)
+    (octet : (n : ℕ) → n ≤ 255 → In (Octet n)) where
   octet-within : (s : List ℕ) → Octets s → In (octetOf s)
   unfolding octetOf
   octet-within s octets = either In (ltb (length s) 1) fine (octet (getD s 0 0) (octets 0))
 
   pub category-within : (s : List ℕ) → Octets s → In (categoryOf s)
   unfolding categoryOf
-  category-within s octets = by-template In fine (λ n. octet-within) s octets (λ n. At 0) (supportedOf s)
+  category-within s octets =
+      by-template In fine (λ n. octet-within) s octets (λ n. At 0) (supportedOf s)
 
   pub parameter-within : (s : List ℕ) → Octets s → In (parameterOf s)
   unfolding parameterOf
-  parameter-within s octets = by-template In fine (λ n. octet-within) s octets (λ n. At 1) (supportedOf s)
+  parameter-within s octets =
+      by-template In fine (λ n. octet-within) s octets (λ n. At 1) (supportedOf s)
 
-module _ (In : MaybeTime → Type 0) (fine : In NoTime) (time : (t : ForecastTime) → t .unit ≤ 255 → t .time ≤ 4294967295 → In (Time t)) where
+module _ (In : MaybeTime → Type 0) (fine : In NoTime)
+    (time : (t : ForecastTime) → t .unit ≤ 255 → t .time ≤ 4294967295 → In (Time t)) where
   time-within : (width : TimeOctets) (s : List ℕ) → Octets s → In (timeOf width s)
   unfolding timeOf octetsIn
   time-within Two s octets =
@@ -91,7 +94,8 @@ module _ (In : MaybeTime → Type 0) (fine : In NoTime) (time : (t : ForecastTim
       either In (ltb (length s) 5) fine
       (time _ (octets 0) (omega (arith, be-lt s 1 (λ i. omega (arith, octets i)) 4)))
 
-  pub forecast-within : (reading : TemplateReading) (s : List ℕ) → Octets s → In (forecastOf reading s)
+  pub forecast-within : (reading : TemplateReading) (s : List ℕ) → Octets s
+      → In (forecastOf reading s)
   unfolding forecastOf
   forecast-within reading s octets =
       by-template In fine (λ n. time-within (offsetsOf reading n .width)) s octets
@@ -104,20 +108,25 @@ Within NoSurface = Unit
 
 surface-within : (s : List ℕ) → Octets s → Within (surfaceOf s)
 unfolding surfaceOf
-surface-within s octets = by-signs (signedOf (take 1 (drop 1 s))) (signedOf (take 4 (drop 2 s))) refl refl
+surface-within s octets =
+    by-signs (signedOf (take 1 (drop 1 s))) (signedOf (take 4 (drop 2 s))) refl refl
   where
-    by-signs : (f v : Signed) → signedOf (take 1 (drop 1 s)) ≡ f → signedOf (take 4 (drop 2 s)) ≡ v → Within (surfaceOf s)
+    by-signs : (f v : Signed) → signedOf (take 1 (drop 1 s)) ≡ f → signedOf (take 4 (drop 2 s)) ≡ v
+        → Within (surfaceOf s)
     by-signs (Number f) (Number v) p q = rw (p, q) (either Within (ltb (length s) 6) tt (octets 0))
     by-signs (Number f) NoNumber p q = rw (p, q) (either Within (ltb (length s) 6) tt tt)
     by-signs NoNumber v p q = rw p (either Within (ltb (length s) 6) tt tt)
 
-module _ (In : MaybeSurfaces → Type 0) (fine : In NoSurfaces) (pair : (a b : FixedSurface) → a .surface ≤ 255 → In (Both a b)) where
+module _ (In : MaybeSurfaces → Type 0) (fine : In NoSurfaces)
+    (pair : (a b : FixedSurface) → a .surface ≤ 255 → In (Both a b)) where
   surfaces-within : (s : List ℕ) → Octets s → In (surfacesOf s)
   unfolding surfacesOf
   surfaces-within s octets = by-both (surfaceOf s) (surfaceOf (drop 6 s)) refl refl
     where
-      by-both : (a b : MaybeSurface) → surfaceOf s ≡ a → surfaceOf (drop 6 s) ≡ b → In (surfacesOf s)
-      by-both (Surface a) (Surface b) p q = rw (p, q) (pair a b (subst Within p (surface-within s octets)))
+      by-both : (a b : MaybeSurface) → surfaceOf s ≡ a → surfaceOf (drop 6 s) ≡ b
+          → In (surfacesOf s)
+      by-both (Surface a) (Surface b) p q =
+          rw (p, q) (pair a b (subst Within p (surface-within s octets)))
       by-both (Surface a) NoSurface p q = rw (p, q) fine
       by-both NoSurface b p q = rw p fine
 

@@ -47,11 +47,13 @@ dust behind = 0 ∷ 0 ∷ 0 ∷ 44 ∷ replicate 21 0 ++ 1 ∷ behind
 abbrev pub twoSurfaces : List ℕ
 twoSurfaces = 5 ∷ 130 ∷ 0 ∷ 0 ∷ 0 ∷ 1 ∷ 7 ∷ 0 ∷ 0 ∷ 0 ∷ 0 ∷ 2 ∷ []
 
+-- what they say
 abbrev pub saidSurfaces : MaybeSurfaces
 saidSurfaces =
     Both (record { surface = 5; factor = negsuc 1; value = pos 1 })
     (record { surface = 7; factor = pos 0; value = pos 2 })
 
+-- this time, in unit 1
 abbrev pub said : ℕ → MaybeTime
 said time = Time (record { unit = 1; time = time })
 

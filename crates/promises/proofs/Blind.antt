@@ -1,4 +1,5 @@
--- Demand 3, at document 01's terms: two files that differ in values octets only are one to every reader, and a copy is as good as its file.
+-- Demand 3, at document 01's terms: two files that differ in values octets only are one to every
+-- reader, and a copy is as good as its file.
 use Prim.Native.Nat.{ℕ, _/_}
 use mathlib.Core.Path.{_≡_, refl, sym, ap, _∙_}
 use mathlib.Core.Bool.{Bool, true, false}
@@ -17,7 +18,19 @@ use Rattle.pull.specs.Pull.{handsOut, pulled}
 use Rattle.pull.proofs.Sequence.{sequence}
 use Rattle.publish.specs.Values.{licensed}
 use Rattle.publish.specs.Copy.{publicCopy}
-use Rattle.index.specs.Decoded.{SectionFields, ofIndicator, ofIdentification, ofGrid, ofProduct, ofRepresentation, ofBitMap, ofNone, productSectionOf, fieldsOf, decoded}
+use Rattle.index.specs.Decoded.{
+  SectionFields,
+  ofIndicator,
+  ofIdentification,
+  ofGrid,
+  ofProduct,
+  ofRepresentation,
+  ofBitMap,
+  ofNone,
+  productSectionOf,
+  fieldsOf,
+  decoded,
+}
 use Rattle.blindness.specs.Agree.{Alike}
 use Rattle.blindness.specs.Blindness.{One, Public}
 use Rattle.blindness.proofs.Spared.{terms-pass}
@@ -27,27 +40,51 @@ use Rattle.products.specs.Products.{whenWhereOf, productOf}
 use Rattle.products.specs.declared.templates.TemplateReading.{TemplateReading}
 use Rattle.products.specs.declared.Product.{Product}
 use Rattle.products.specs.declared.WhenWhere.{WhenWhere}
-use Rattle.buttresk.specs.Product.{readingOf, fieldsBy, productFields, whenWhereNumbers, whenWhereBy, whenWhereFields}
+use Rattle.buttresk.specs.Product.{
+  readingOf,
+  fieldsBy,
+  productFields,
+  whenWhereNumbers,
+  whenWhereBy,
+  whenWhereFields,
+}
 use Rattle.walk_laws.proofs.WholeWalk.{is-clean}
-use Rattle.promises.specs.CFace.{FaceFields, indicatorFace, identificationFace, gridFace, productFace, representationFace, bitMapFace, noFace, faceOf, facesOf}
+use Rattle.promises.specs.CFace.{
+  FaceFields,
+  indicatorFace,
+  identificationFace,
+  gridFace,
+  productFace,
+  representationFace,
+  bitMapFace,
+  noFace,
+  faceOf,
+  facesOf,
+}
 
 -- two files that differ in values octets only are one to every reader
 pub one : (f g : List ℕ) → Alike licensed f g → One licensed f g
 one f g d = blindness licensed (terms-pass .licensed-pass) f g d
 
 -- a copy is as good as its file
-pub public : (f : List ℕ) → endOf (walked unlimited f .outcome) .outcome ≡ 0 → Public licensed f (publicCopy licensed f)
-public f e = public-copies licensed (terms-pass .licensed-pass) f (is-clean (walked unlimited f .outcome) e)
+pub public : (f : List ℕ) → endOf (walked unlimited f .outcome) .outcome ≡ 0
+    → Public licensed f (publicCopy licensed f)
+public f e =
+    public-copies licensed (terms-pass .licensed-pass) f (is-clean (walked unlimited f .outcome) e)
 
-pub equal-numbers : (f g : List ℕ) → Alike licensed f g → (rows lines : List ℕ) → walkNumbers f rows lines ≡ walkNumbers g rows lines
+pub equal-numbers : (f g : List ℕ) → Alike licensed f g → (rows lines : List ℕ)
+    → walkNumbers f rows lines ≡ walkNumbers g rows lines
 unfolding walkNumbers
-equal-numbers f g d rows lines = rw (one f g d .one-walk (roomOf (length rows) (length lines / 15))) refl
+equal-numbers f g d rows lines =
+    rw (one f g d .one-walk (roomOf (length rows) (length lines / 15))) refl
 
 pub equal-pulls : (f g : List ℕ) → Alike licensed f g → (call : ℕ)
     → pullAt f (afterCalls call f) .answer ≡ pullAt g (afterCalls call g) .answer
 unfolding pulled
 equal-pulls f g d call =
-    sequence f call ∙ ap (λ (t : Told). handsOut 0 (t .sections) (t .outcome) call) (one f g d .one-walk unlimited) ∙ sym (sequence g call)
+    sequence f call
+    ∙ ap (λ (t : Told). handsOut 0 (t .sections) (t .outcome) call)
+    (one f g d .one-walk unlimited) ∙ sym (sequence g call)
 
 -- time and surfaces of a product, by each reading
 abbrev when-where : (TemplateReading → Product) → TemplateReading → WhenWhere

@@ -14,11 +14,21 @@ use Rattle.walk_laws.proofs.OneStep.{one-step-exactly-when}
 use Rattle.walk_laws.proofs.Missing.{how-much-is-missing}
 use Rattle.walk_laws.proofs.Starts.{where-messages-start}
 use Rattle.walk_laws.proofs.Spans.{where-messages-stand}
-use Rattle.walk_laws.proofs.Messages.{closed-messages-are-tiled, each-end-closes-a-message, messages-are-ends, no-end-at-place-0}
+use Rattle.walk_laws.proofs.Messages.{
+  closed-messages-are-tiled,
+  each-end-closes-a-message,
+  messages-are-ends,
+  no-end-at-place-0,
+}
 use Rattle.walk_laws.proofs.Counts.{unlimited-is-never-full}
 use Rattle.walk_laws.proofs.Unlimited.{begins-the-unlimited, held-is-unlimited}
 use Rattle.walk_laws.proofs.Places.{place-is-count, input-over-at-last}
-use Rattle.as_the_crate.proofs.Equal.{walk-equals-the-rust, walk-numbers-equals-the-rust, pull-equals-the-rust, open-loses-nothing}
+use Rattle.as_the_crate.proofs.Equal.{
+  walk-equals-the-rust,
+  walk-numbers-equals-the-rust,
+  pull-equals-the-rust,
+  open-loses-nothing,
+}
 use Rattle.as_the_crate.proofs.Overflow.{overflows-exactly-when}
 use Rattle.as_the_encoder.proofs.Encoding.{writes-as-the-rust}
 use Rattle.as_the_encoder.proofs.EncodingNested.{every-accepted-plan-is-nested}
@@ -30,8 +40,17 @@ use Rattle.promises.proofs.Answers.{each-gives-its-definition}
 use Rattle.promises.proofs.Leaves.{walk-stores, numbers-store, copy-leaves, write-leaves}
 use Rattle.promises.proofs.Listing.{inventory-leaves, list-stores}
 use Rattle.promises.proofs.Pulling.{pull-hands-out}
-use Rattle.promises.proofs.Copying.{copied, copy-refused-exactly-when, copy-written-exactly-when}
-use Rattle.promises.proofs.Writing.{plan-refused-exactly-when, plan-taken-exactly-when, one-message-is-in-order, written-reads-back}
+use Rattle.promises.proofs.Copying.{
+  copied,
+  copy-refused-exactly-when,
+  copy-written-exactly-when,
+}
+use Rattle.promises.proofs.Writing.{
+  plan-refused-exactly-when,
+  plan-taken-exactly-when,
+  one-message-is-in-order,
+  written-reads-back,
+}
 use Rattle.promises.proofs.Inventory.{text-inventory}
 use Rattle.promises.proofs.Blind.{one, public, equal-numbers, equal-faces, equal-pulls}
 
@@ -44,7 +63,11 @@ demand-1 =
       numbers-store = numbers-store;
       list-stores = list-stores;
       nothing-else =
-          record { copy-leaves = copy-leaves; write-leaves = write-leaves; inventory-leaves = inventory-leaves };
+          record {
+            copy-leaves = copy-leaves;
+            write-leaves = write-leaves;
+            inventory-leaves = inventory-leaves;
+          };
     }
 
 -- what makes the definitions worth believing
@@ -106,9 +129,12 @@ demand-3 =
           let clean = is-clean (walked unlimited f .outcome) e in
           let clean′ =
           is-clean (walked unlimited g .outcome)
-          (sym (ap (λ (told : Told). endOf (told .outcome) .outcome) (one f g d .one-walk unlimited)) ∙ e) in
+          (sym (ap (λ (told : Told). endOf (told .outcome) .outcome)
+          (one f g d .one-walk unlimited)) ∙ e) in
           copied f dest clean fits ∙ one f g d .one-copy clean ∙ sym (copied g other clean′ also);
-      copy-stands = λ f e dest fits. rw (copied f dest (is-clean (walked unlimited f .outcome) e) fits) (public f e);
+      copy-stands =
+          λ f e dest fits. rw (copied f dest (is-clean (walked unlimited f .outcome) e) fits)
+          (public f e);
     }
 
 -- nor under any other terms that pass the test

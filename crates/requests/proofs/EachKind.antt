@@ -6,14 +6,19 @@ use mathlib.Core.Bool.{Bool, true, false}
 use mathlib.Core.List.{List}
 use Prim.Native.Nat.{ℕ, _+_, _*_, _<_, _≤_}
 use native.Mathlib.Omega.{arith}
-use borrow.Author.Tests.{lt-ltb, le-ltb, ltb-false, ne-eqb}
-use lib.Dec.{eqb, ltb}
+use borrow.Author.Tests.{lt-ltb, le-ltb, ltb-false}
+use lib.Dec.{ltb}
 use lib.ListN.{length, getD}
 use Rattle.octets.specs.Words.{pick}
 use Rattle.octets.specs.BigEndian.{beAt}
 use Rattle.products.specs.declared.templates.TemplateReading.{TemplateReading}
 use Rattle.requests.specs.Requests.{walkRequestAt, pullRequestAt, intoRequestAt}
-use Rattle.requests.specs.Requests.{writeRequestAt, payloadRequestAt, signedRequestAt, listRequestAt}
+use Rattle.requests.specs.Requests.{
+  writeRequestAt,
+  payloadRequestAt,
+  signedRequestAt,
+  listRequestAt,
+}
 use Rattle.requests.specs.Requests.{readingOf, readBy, offsetsRequestAt, whenWhere}
 use Rattle.requests.specs.declared.Writing.{Writing}
 use Rattle.requests.specs.declared.Request.{Request}
@@ -23,15 +28,17 @@ use Rattle.requests.specs.declared.Request.the-variants.{Offsets, WhenWh
 use Rattle.requests.specs.declared.Request.the-variants as request
 use Rattle.requests.specs.declared.kinds.MaybeReading.{MaybeReading}
 use Rattle.requests.specs.declared.kinds.MaybeReading.the-variants.{Named, NoReading}
-use Rattle.requests.proofs.Stands.{Stands, Inside, Roomed, Goes}
+use Rattle.requests.proofs.Stands.{Stands, Inside, Roomed}
 
 -- what holds of both answers of a test, each where the test says so, holds of the one picked
-pub pick-by : {A : Type 0} (P : A → Type 0) (t : Bool) {a b : A} → (t ≡ true → P a) → (t ≡ false → P b) → P (pick t a b)
+pub pick-by : {A : Type 0} (P : A → Type 0) (t : Bool) {a b : A} → (t ≡ true → P a)
+    → (t ≡ false → P b) → P (pick t a b)
 pick-by P true f g = f refl
 pick-by P false f g = g refl
 
 -- `W`; `n`, `m` and `size` are what its numbers say
-module _ (s : List ℕ) (at n m size : ℕ) (en : n ≡ beAt s (at + 1) 2) (em : m ≡ beAt s (at + 3) 2) (es : size ≡ beAt s (at + 5) 4) where
+module _ (s : List ℕ) (at n m size : ℕ) (en : n ≡ beAt s (at + 1) 2) (em : m ≡ beAt s (at + 3) 2)
+    (es : size ≡ beAt s (at + 5) 4) where
   pub walk-cut : length s < at + 9 + size → Bad ≡ walkRequestAt s at
   unfolding walkRequestAt
   walk-cut h = simp (← es, lt-ltb _ _ h)
@@ -44,7 +51,8 @@ module _ (s : List ℕ) (at n m size : ℕ) (en : n ≡ beAt s (at + 1) 2) (em :
   unfolding walkRequestAt
   walk-lines-over h k o = simp (← es, ← en, ← em, le-ltb _ _ h, le-ltb _ _ k, lt-ltb _ _ o)
 
-  pub walk-whole : at + 9 + size ≤ length s → n ≤ 6144 → m ≤ 512 → Walk n m (at + 9) (at + 9 + size) ≡ walkRequestAt s at
+  pub walk-whole : at + 9 + size ≤ length s → n ≤ 6144 → m ≤ 512
+      → Walk n m (at + 9) (at + 9 + size) ≡ walkRequestAt s at
   unfolding walkRequestAt
   walk-whole h k l = simp (← es, ← en, ← em, le-ltb _ _ h, le-ltb _ _ k, le-ltb _ _ l)
 
@@ -66,7 +74,8 @@ module _ (s : List ℕ) (at : ℕ) where
   unfolding pullRequestAt
   pull-cut h = simp (lt-ltb _ _ h)
 
-  pub pull-whole : (size : ℕ) → size ≡ beAt s (at + 1) 4 → at + 5 + size ≤ length s → Pull (at + 5) (at + 5 + size) ≡ pullRequestAt s at
+  pub pull-whole : (size : ℕ) → size ≡ beAt s (at + 1) 4 → at + 5 + size ≤ length s
+      → Pull (at + 5) (at + 5 + size) ≡ pullRequestAt s at
   unfolding pullRequestAt
   pull-whole size e h = simp (← e, le-ltb _ _ h)
 
@@ -77,7 +86,8 @@ module _ (s : List ℕ) (at : ℕ) where
       record { behind = omega arith; ordered = omega arith; within = ltb-false _ _ e })
 
 -- `C` and `I`; `d` and `size` are what its numbers say
-module _ (kind : ℕ → ℕ → ℕ → Request) (s : List ℕ) (at d size : ℕ) (ed : d ≡ beAt s (at + 1) 4) (es : size ≡ beAt s (at + 5) 4) where
+module _ (kind : ℕ → ℕ → ℕ → Request) (s : List ℕ) (at d size : ℕ) (ed : d ≡ beAt s (at + 1) 4)
+    (es : size ≡ beAt s (at + 5) 4) where
   pub into-cut : length s < at + 9 + size → Bad ≡ intoRequestAt kind s at
   unfolding intoRequestAt
   into-cut h = simp (← es, lt-ltb _ _ h)
@@ -86,12 +96,14 @@ module _ (kind : ℕ → ℕ → ℕ → Request) (s : List ℕ) (at d size : �
   unfolding intoRequestAt
   into-room-over h o = simp (← es, ← ed, le-ltb _ _ h, lt-ltb _ _ o)
 
-  pub into-whole : at + 9 + size ≤ length s → d ≤ 262144 → kind d (at + 9) (at + 9 + size) ≡ intoRequestAt kind s at
+  pub into-whole : at + 9 + size ≤ length s → d ≤ 262144
+      → kind d (at + 9) (at + 9 + size) ≡ intoRequestAt kind s at
   unfolding intoRequestAt
   into-whole h k = simp (← es, ← ed, le-ltb _ _ h, le-ltb _ _ k)
 
 -- so of any kind whose requests stand where their room and their octets do
-into-stands : (kind : ℕ → ℕ → ℕ → Request) (s : List ℕ) (at : ℕ) → ((d from to : ℕ) → Roomed 262144 s at d from to → Stands s at (kind d from to))
+into-stands : (kind : ℕ → ℕ → ℕ → Request) (s : List ℕ) (at : ℕ)
+    → ((d from to : ℕ) → Roomed 262144 s at d from to → Stands s at (kind d from to))
     → Stands s at (intoRequestAt kind s at)
 unfolding intoRequestAt
 into-stands kind s at so =
@@ -110,13 +122,15 @@ pub inventory-stands : (s : List ℕ) (at : ℕ) → Stands s at (intoRequestAt 
 inventory-stands s at = into-stands Inventory s at (λ d from to h. h)
 
 -- `M`; `k`, `size` and `d` are what its numbers say
-module _ (s : List ℕ) (at k size d : ℕ) (ek : k ≡ beAt s (at + 4) 2) (es : size ≡ beAt s (at + 6 + k * 24) 4)
+module _ (s : List ℕ) (at k size d : ℕ) (ek : k ≡ beAt s (at + 4) 2)
+    (es : size ≡ beAt s (at + 6 + k * 24) 4)
     (ed : d ≡ beAt s (at + 6 + k * 24 + 4 + size) 4) where
   pub write-cut : length s < at + 6 + k * 24 + 4 + size + 4 → Bad ≡ writeRequestAt s at
   unfolding writeRequestAt
   write-cut h = simp (← ek, ← es, lt-ltb _ _ h)
 
-  pub write-room-over : at + 6 + k * 24 + 4 + size + 4 ≤ length s → 262144 < d → Bad ≡ writeRequestAt s at
+  pub write-room-over : at + 6 + k * 24 + 4 + size + 4 ≤ length s → 262144 < d
+      → Bad ≡ writeRequestAt s at
   unfolding writeRequestAt
   write-room-over h o = simp (← ek, ← es, ← ed, le-ltb _ _ h, lt-ltb _ _ o)
 
@@ -135,7 +149,8 @@ module _ (s : List ℕ) (at k size d : ℕ) (ek : k ≡ beAt s (at + 4) 2) (es :
         to = at + 6 + k * 24 + 4 + size + 4;
       }
 
-  pub write-whole : at + 6 + k * 24 + 4 + size + 4 ≤ length s → d ≤ 262144 → Write written ≡ writeRequestAt s at
+  pub write-whole : at + 6 + k * 24 + 4 + size + 4 ≤ length s → d ≤ 262144
+      → Write written ≡ writeRequestAt s at
   unfolding writeRequestAt
   write-whole h l = simp (← ek, ← es, ← ed, le-ltb _ _ h, le-ltb _ _ l)
 
@@ -148,13 +163,19 @@ write-stands s at =
     pick-by (Stands s at) (ltb 262144 (beAt s end 4)) (λ e. tt) (λ f.
     let inside = ltb-false (length s) (end + 4) e in
     record {
-      planned = record { rows = omega arith; ordered = omega arith; within = omega arith; room = ltb-false _ _ f };
+      planned = record {
+        rows = omega arith;
+        ordered = omega arith;
+        within = omega arith;
+        room = ltb-false _ _ f;
+      };
       later = omega arith;
       inside = inside;
     }))
 
 -- `F` and `T`; `size` is what its length says
-module _ (kind : ℕ → ℕ → ℕ → Request) (s : List ℕ) (at size : ℕ) (es : size ≡ beAt s (at + 2) 4) where
+module _ (kind : ℕ → ℕ → ℕ → Request) (s : List ℕ) (at size : ℕ)
+    (es : size ≡ beAt s (at + 2) 4) where
   pub payload-cut : length s < at + 6 + size → Bad ≡ payloadRequestAt kind s at
   unfolding payloadRequestAt
   payload-cut h = simp (← es, lt-ltb _ _ h)
@@ -193,7 +214,8 @@ module _ (s : List ℕ) (at : ℕ) where
   unfolding signedRequestAt
   signed-cut h = simp (lt-ltb _ _ h)
 
-  pub signed-whole : at + 2 + getD s (at + 1) 0 ≤ length s → Signed (at + 2) (at + 2 + getD s (at + 1) 0) ≡ signedRequestAt s at
+  pub signed-whole : at + 2 + getD s (at + 1) 0 ≤ length s
+      → Signed (at + 2) (at + 2 + getD s (at + 1) 0) ≡ signedRequestAt s at
   unfolding signedRequestAt
   signed-whole h = simp (le-ltb _ _ h)
 
@@ -204,7 +226,8 @@ module _ (s : List ℕ) (at : ℕ) where
       record { behind = omega arith; ordered = omega arith; within = ltb-false _ _ e })
 
 -- `R`; `m` and `size` are what its numbers say
-module _ (s : List ℕ) (at m size : ℕ) (em : m ≡ beAt s (at + 1) 2) (es : size ≡ beAt s (at + 3) 4) where
+module _ (s : List ℕ) (at m size : ℕ) (em : m ≡ beAt s (at + 1) 2)
+    (es : size ≡ beAt s (at + 3) 4) where
   pub list-cut : length s < at + 7 + size → Bad ≡ listRequestAt s at
   unfolding listRequestAt
   list-cut h = simp (← es, lt-ltb _ _ h)
@@ -213,7 +236,8 @@ module _ (s : List ℕ) (at m size : ℕ) (em : m ≡ beAt s (at + 1) 2) (es : s
   unfolding listRequestAt
   list-room-over h o = simp (← es, ← em, le-ltb _ _ h, lt-ltb _ _ o)
 
-  pub list-whole : at + 7 + size ≤ length s → m ≤ 512 → request.List m (at + 7) (at + 7 + size) ≡ listRequestAt s at
+  pub list-whole : at + 7 + size ≤ length s → m ≤ 512
+      → request.List m (at + 7) (at + 7 + size) ≡ listRequestAt s at
   unfolding listRequestAt
   list-whole h k = simp (← es, ← em, le-ltb _ _ h, le-ltb _ _ k)
 

@@ -1,6 +1,6 @@
 -- `time_of` meets its contract: there are a unit and so many octets of time, or not.
 use Prim.Native.Nat.{ℕ, _+_, _<_, _≤_}
-use mathlib.Core.Path.{_≡_, _∙_}
+use mathlib.Core.Path.{_≡_}
 use mathlib.Core.List.{List}
 use lib.ListN.{length, getD}
 use borrow.Author.Needs.{needs}
@@ -10,7 +10,6 @@ use Rattle.products.specs.Readings.{octetsIn}
 use Rattle.products.specs.Products.{timeOf}
 use Rattle.products.specs.declared.templates.TimeOctets.{TimeOctets}
 use Rattle.products.specs.declared.templates.TimeOctets.the-variants.{Two, Four}
-use Rattle.products.specs.declared.MaybeTime.{MaybeTime}
 use Rattle.products.specs.declared.MaybeTime.the-variants.{Time, NoTime}
 use Rattle.products.proofs.time_of.Statement.{statement}
 use Rattle.products.proofs.time_of.Tie as tie

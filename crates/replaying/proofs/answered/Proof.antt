@@ -1,5 +1,5 @@
--- `replaying::answered` meets its contract: a request's octets stand inside the input, and the tables
--- and the destination that it asks for inside their limits.
+-- `replaying::answered` meets its contract: a request's octets stand inside the input, and the
+-- tables and the destination that it asks for inside their limits.
 use mathlib.Core.Path.{sym, _∙_}
 use borrow.Author.Needs.{needs}
 use Rattle.requests.proofs.Places.{stands-at}
@@ -14,12 +14,15 @@ enum-known-request c = search needs
 
 between-requires : tie.Need-between-requires
 between-requires c κs =
-    let w = stands-at _ _ _ (sym (c .before .before .before .request-at .ensures) ∙ c .before .request .given .1) in
+    let w = stands-at _ _ _
+    (sym (c .before .before .before .request-at .ensures) ∙ c .before .request .given .1) in
     (w .octets .ordered, w .octets .within)
 
 answer-walk-requires : tie.Need-answer-walk-requires
 answer-walk-requires c κs =
-    let w = stands-at _ _ _ (sym (c .before .before .before .before .request-at .ensures) ∙ c .before .before .request .given .1) in
+    let w = stands-at _ _ _
+    (sym (c .before .before .before .before .request-at .ensures)
+    ∙ c .before .before .request .given .1) in
     (w .numbers, w .lines)
 
 enum-known-request-2 : tie.Need-enum-known-request-2
@@ -27,7 +30,8 @@ enum-known-request-2 c = search needs
 
 between-requires-2 : tie.Need-between-requires-2
 between-requires-2 c κs =
-    let w = stands-at _ _ _ (sym (c .before .before .before .request-at .ensures) ∙ c .before .request2 .given .1) in
+    let w = stands-at _ _ _
+    (sym (c .before .before .before .request-at .ensures) ∙ c .before .request2 .given .1) in
     (w .ordered, w .within)
 
 answer-pull-requires : tie.Need-answer-pull-requires
@@ -38,26 +42,34 @@ enum-known-request-3 c = search needs
 
 between-requires-3 : tie.Need-between-requires-3
 between-requires-3 c κs =
-    let w = stands-at _ _ _ (sym (c .before .before .before .request-at .ensures) ∙ c .before .request3 .given .1) in
+    let w = stands-at _ _ _
+    (sym (c .before .before .before .request-at .ensures) ∙ c .before .request3 .given .1) in
     (w .octets .ordered, w .octets .within)
 
 answer-copy-requires : tie.Need-answer-copy-requires
 answer-copy-requires c κs =
-    stands-at _ _ _ (sym (c .before .before .before .before .request-at .ensures) ∙ c .before .before .request3 .given .1) .room
+    stands-at _ _ _
+    (sym (c .before .before .before .before .request-at .ensures)
+    ∙ c .before .before .request3 .given .1) .room
 
 enum-known-request-4 : tie.Need-enum-known-request-4
 enum-known-request-4 c = search needs
 
 answer-write-requires : tie.Need-answer-write-requires
-answer-write-requires c κs =
-    (stands-at _ _ _ (sym (c .before .before .before .request-at .ensures) ∙ c .before .request4 .given .1) .planned, search needs)
+answer-write-requires c κs = (
+  stands-at _ _ _
+      (sym (c .before .before .before .request-at .ensures)
+      ∙ c .before .request4 .given .1) .planned,
+  search needs,
+)
 
 enum-known-request-5 : tie.Need-enum-known-request-5
 enum-known-request-5 c = search needs
 
 between-requires-4 : tie.Need-between-requires-4
 between-requires-4 c κs =
-    let w = stands-at _ _ _ (sym (c .before .before .before .request-at .ensures) ∙ c .before .request5 .given .1) in
+    let w = stands-at _ _ _
+    (sym (c .before .before .before .request-at .ensures) ∙ c .before .request5 .given .1) in
     (w .ordered, w .within)
 
 answer-fields-requires : tie.Need-answer-fields-requires
@@ -68,7 +80,8 @@ enum-known-request-6 c = search needs
 
 between-requires-5 : tie.Need-between-requires-5
 between-requires-5 c κs =
-    let w = stands-at _ _ _ (sym (c .before .before .before .request-at .ensures) ∙ c .before .request6 .given .1) in
+    let w = stands-at _ _ _
+    (sym (c .before .before .before .request-at .ensures) ∙ c .before .request6 .given .1) in
     (w .ordered, w .within)
 
 answer-signed-requires : tie.Need-answer-signed-requires
@@ -79,24 +92,30 @@ enum-known-request-7 c = search needs
 
 between-requires-6 : tie.Need-between-requires-6
 between-requires-6 c κs =
-    let w = stands-at _ _ _ (sym (c .before .before .before .request-at .ensures) ∙ c .before .request7 .given .1) in
+    let w = stands-at _ _ _
+    (sym (c .before .before .before .request-at .ensures) ∙ c .before .request7 .given .1) in
     (w .octets .ordered, w .octets .within)
 
 answer-inventory-requires : tie.Need-answer-inventory-requires
 answer-inventory-requires c κs =
-    stands-at _ _ _ (sym (c .before .before .before .before .request-at .ensures) ∙ c .before .before .request7 .given .1) .room
+    stands-at _ _ _
+    (sym (c .before .before .before .before .request-at .ensures)
+    ∙ c .before .before .request7 .given .1) .room
 
 enum-known-request-8 : tie.Need-enum-known-request-8
 enum-known-request-8 c = search needs
 
 between-requires-7 : tie.Need-between-requires-7
 between-requires-7 c κs =
-    let w = stands-at _ _ _ (sym (c .before .before .before .request-at .ensures) ∙ c .before .request8 .given .1) in
+    let w = stands-at _ _ _
+    (sym (c .before .before .before .request-at .ensures) ∙ c .before .request8 .given .1) in
     (w .octets .ordered, w .octets .within)
 
 answer-list-requires : tie.Need-answer-list-requires
 answer-list-requires c κs =
-    stands-at _ _ _ (sym (c .before .before .before .before .request-at .ensures) ∙ c .before .before .request8 .given .1) .room
+    stands-at _ _ _
+    (sym (c .before .before .before .before .request-at .ensures)
+    ∙ c .before .before .request8 .given .1) .room
 
 enum-known-request-9 : tie.Need-enum-known-request-9
 enum-known-request-9 c = search needs
@@ -123,28 +142,36 @@ answer-bad-requires : tie.Need-answer-bad-requires
 answer-bad-requires c κs = search needs
 
 returns : tie.Need-returns
-returns c = sym (c .before .before .before .request .given .1) ∙ c .before .before .before .before .before .request-at .ensures
+returns c = sym (c .before .before .before .request .given .1)
+    ∙ c .before .before .before .before .before .request-at .ensures
 
 returns-2 : tie.Need-returns-2
-returns-2 c = sym (c .before .before .before .request2 .given .1) ∙ c .before .before .before .before .before .request-at .ensures
+returns-2 c = sym (c .before .before .before .request2 .given .1)
+    ∙ c .before .before .before .before .before .request-at .ensures
 
 returns-3 : tie.Need-returns-3
-returns-3 c = sym (c .before .before .before .request3 .given .1) ∙ c .before .before .before .before .before .request-at .ensures
+returns-3 c = sym (c .before .before .before .request3 .given .1)
+    ∙ c .before .before .before .before .before .request-at .ensures
 
 returns-4 : tie.Need-returns-4
-returns-4 c = sym (c .before .before .request4 .given .1) ∙ c .before .before .before .before .request-at .ensures
+returns-4 c = sym (c .before .before .request4 .given .1)
+    ∙ c .before .before .before .before .request-at .ensures
 
 returns-5 : tie.Need-returns-5
-returns-5 c = sym (c .before .before .before .request5 .given .1) ∙ c .before .before .before .before .before .request-at .ensures
+returns-5 c = sym (c .before .before .before .request5 .given .1)
+    ∙ c .before .before .before .before .before .request-at .ensures
 
 returns-6 : tie.Need-returns-6
-returns-6 c = sym (c .before .before .before .request6 .given .1) ∙ c .before .before .before .before .before .request-at .ensures
+returns-6 c = sym (c .before .before .before .request6 .given .1)
+    ∙ c .before .before .before .before .before .request-at .ensures
 
 returns-7 : tie.Need-returns-7
-returns-7 c = sym (c .before .before .before .request7 .given .1) ∙ c .before .before .before .before .before .request-at .ensures
+returns-7 c = sym (c .before .before .before .request7 .given .1)
+    ∙ c .before .before .before .before .before .request-at .ensures
 
 returns-8 : tie.Need-returns-8
-returns-8 c = sym (c .before .before .before .request8 .given .1) ∙ c .before .before .before .before .before .request-at .ensures
+returns-8 c = sym (c .before .before .before .request8 .given .1)
+    ∙ c .before .before .before .before .before .request-at .ensures
 
 returns-9 : tie.Need-returns-9
 returns-9 c =

@@ -45,35 +45,43 @@ when-where-request-at-requires c κs = search needs
 
 returns-2 : tie.Need-returns-2
 unfolding requestAt
-returns-2 c = c .walk-request-at .ensures ∙ simp (lt-leb _ _ (c .before .before .before .if1 .left), c .before .match .keys1)
+returns-2 c = c .walk-request-at .ensures
+    ∙ simp (lt-leb _ _ (c .before .before .before .if1 .left), c .before .match .keys1)
 
 returns-3 : tie.Need-returns-3
 unfolding requestAt
-returns-3 c = c .pull-request-at .ensures ∙ simp (lt-leb _ _ (c .before .before .before .if1 .left), c .before .match .keys2)
+returns-3 c = c .pull-request-at .ensures
+    ∙ simp (lt-leb _ _ (c .before .before .before .if1 .left), c .before .match .keys2)
 
 returns-4 : tie.Need-returns-4
 unfolding requestAt
-returns-4 c = c .copy-request-at .ensures ∙ simp (lt-leb _ _ (c .before .before .before .if1 .left), c .before .match .keys3)
+returns-4 c = c .copy-request-at .ensures
+    ∙ simp (lt-leb _ _ (c .before .before .before .if1 .left), c .before .match .keys3)
 
 returns-5 : tie.Need-returns-5
 unfolding requestAt
-returns-5 c = c .write-request-at .ensures ∙ simp (lt-leb _ _ (c .before .before .before .if1 .left), c .before .match .keys4)
+returns-5 c = c .write-request-at .ensures
+    ∙ simp (lt-leb _ _ (c .before .before .before .if1 .left), c .before .match .keys4)
 
 returns-6 : tie.Need-returns-6
 unfolding requestAt
-returns-6 c = c .fields-request-at .ensures ∙ simp (lt-leb _ _ (c .before .before .before .if1 .left), c .before .match .keys5)
+returns-6 c = c .fields-request-at .ensures
+    ∙ simp (lt-leb _ _ (c .before .before .before .if1 .left), c .before .match .keys5)
 
 returns-7 : tie.Need-returns-7
 unfolding requestAt
-returns-7 c = c .signed-request-at .ensures ∙ simp (lt-leb _ _ (c .before .before .before .if1 .left), c .before .match .keys6)
+returns-7 c = c .signed-request-at .ensures
+    ∙ simp (lt-leb _ _ (c .before .before .before .if1 .left), c .before .match .keys6)
 
 returns-8 : tie.Need-returns-8
 unfolding requestAt
-returns-8 c = c .inventory-request-at .ensures ∙ simp (lt-leb _ _ (c .before .before .before .if1 .left), c .before .match .keys7)
+returns-8 c = c .inventory-request-at .ensures
+    ∙ simp (lt-leb _ _ (c .before .before .before .if1 .left), c .before .match .keys7)
 
 returns-9 : tie.Need-returns-9
 unfolding requestAt
-returns-9 c = c .list-request-at .ensures ∙ simp (lt-leb _ _ (c .before .before .before .if1 .left), c .before .match .keys8)
+returns-9 c = c .list-request-at .ensures
+    ∙ simp (lt-leb _ _ (c .before .before .before .if1 .left), c .before .match .keys8)
 
 returns-10 : tie.Need-returns-10
 unfolding requestAt

@@ -31,19 +31,24 @@ nothing-put at text =
       put = λ fits. sym (rw add-zero (take-append-drop at text));
     }
 
-no-entry : (file : List ℕ) (m : Memory) → indicatorOf (ownOctets file (m .zeroth)) ≡ NoIndicator → textOf (entriesIn file m) ≡ []
+no-entry : (file : List ℕ) (m : Memory) → indicatorOf (ownOctets file (m .zeroth)) ≡ NoIndicator
+    → textOf (entriesIn file m) ≡ []
 unfolding entriesIn indicatorIn textOf
 no-entry file m e = rw e
 
-one-entry : (file : List ℕ) (m : Memory) {indicator : Indicator} → indicatorOf (ownOctets file (m .zeroth)) ≡ Fields indicator
-    → textOf (entriesIn file m) ≡ entryLine (entryIn m indicator (productOf ByManual (payloadOf file (m .fourth))))
+one-entry : (file : List ℕ) (m : Memory) {indicator : Indicator}
+    → indicatorOf (ownOctets file (m .zeroth)) ≡ Fields indicator
+    → textOf (entriesIn file m)
+    ≡ entryLine (entryIn m indicator (productOf ByManual (payloadOf file (m .fourth))))
 unfolding entriesIn indicatorIn textOf
 one-entry file m e = rw e (append-nil _)
 
 -- a text that is the entry's
-as-text : (file : List ℕ) (m : Memory) {written text text′ : List ℕ} {at end : ℕ} → textOf (entriesIn file m) ≡ written
+as-text : (file : List ℕ) (m : Memory) {written text text′ : List ℕ} {at end : ℕ}
+    → textOf (entriesIn file m) ≡ written
     → PutText written at text text′ end → PutText (textOf (entriesIn file m)) at text text′ end
-as-text file m {text = text} {text′ = text′} {at = at} {end = end} same put = subst (λ (t : List ℕ). PutText t at text text′ end) (sym same) put
+as-text file m {text = text} {text′ = text′} {at = at} {end = end} same put = subst
+    (λ (t : List ℕ). PutText t at text text′ end) (sym same) put
 
 at-most : tie.Need-put-entry-requires
 at-most c κs =
@@ -57,7 +62,9 @@ returns c =
     let own = asked .before in
     let a = own .before .before .before .before .before .before .args in
     as-text (a .file .now) (a .memory)
-    (no-entry (a .file .now) (a .memory) (ap indicatorOf (sym (own .own-octets .ensures)) ∙ sym (asked .from-section .ensures) ∙ c .enum-told .given .1))
+    (no-entry (a .file .now) (a .memory)
+    (ap indicatorOf (sym (own .own-octets .ensures)) ∙ sym (asked .from-section .ensures)
+    ∙ c .enum-told .given .1))
     (nothing-put (a .at) (a .text .now))
 
 returns-2 : tie.Need-returns-2
@@ -76,7 +83,9 @@ returns-2 c =
     decoded .product-by .ensures
     ∙ rw (start .pre .0, paid .payload-of .ensures) (product-by-the-table ByManual payload) in
     as-text (a .file .now) (a .memory)
-    (one-entry (a .file .now) (a .memory) (ap indicatorOf (sym (own .own-octets .ensures)) ∙ sym (asked .from-section .ensures) ∙ known .known .given .1)
+    (one-entry (a .file .now) (a .memory)
+    (ap indicatorOf (sym (own .own-octets .ensures)) ∙ sym (asked .from-section .ensures)
+    ∙ known .known .given .1)
     ∙ sym (ap entryLine (made .entry-in .ensures ∙ rw product)))
     (put .put-entry .ensures)
 

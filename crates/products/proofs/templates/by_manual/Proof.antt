@@ -1,5 +1,5 @@
 -- `by_manual` meets its contract: at 44 and at 47 by computing, and elsewhere nothing is corrected.
-use mathlib.Core.Path.{_≡_, refl, sym}
+use mathlib.Core.Path.{sym}
 use Rattle.products.specs.Readings.{processesByManual, widthsByManual, byReading}
 use Rattle.products.proofs.Readings.{elsewhere}
 use Rattle.products.proofs.templates.by_manual.Statement.{statement}

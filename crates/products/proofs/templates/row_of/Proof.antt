@@ -8,7 +8,6 @@ use borrow.Author.Needs.{needs}
 use Rattle.products.specs.Rows.{none, column, columns}
 use Rattle.products.specs.declared.templates.Index.{Index}
 use Rattle.products.specs.declared.templates.TimeOctets.the-variants.{Four}
-use Rattle.products.specs.declared.templates.Offsets.{Offsets}
 use Rattle.products.proofs.EachEntry.{inside-it}
 use Rattle.products.proofs.templates.row_of.Statement.{statement}
 use Rattle.products.proofs.templates.row_of.Tie as tie
@@ -30,7 +29,8 @@ returns-2 c =
     let second = c .before in
     let first = second .before in
     let a = first .before .before .before .before .args in
-    read (a .rows .now) (a .template) _ _ _ (omega arith) (first .column-of .ensures) (second .column-of2 .ensures)
+    read (a .rows .now) (a .template) _ _ _ (omega arith) (first .column-of .ensures)
+    (second .column-of2 .ensures)
     (c .column-of3 .ensures)
 
 pub row-of-spec : {M : Type 1} → statement M

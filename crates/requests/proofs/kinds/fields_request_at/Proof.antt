@@ -16,10 +16,12 @@ enum-told : tie.Need-enum-told
 enum-told c = search needs
 
 returns : tie.Need-returns
-returns c = ap (requestOf Fields) (sym (c .before .payload .given .1)) ∙ c .before .before .before .payload-at .ensures Fields
+returns c = ap (requestOf Fields) (sym (c .before .payload .given .1))
+    ∙ c .before .before .before .payload-at .ensures Fields
 
 returns-2 : tie.Need-returns-2
-returns-2 c = ap (requestOf Fields) (sym (c .enum-told .given .1)) ∙ c .before .before .payload-at .ensures Fields
+returns-2 c = ap (requestOf Fields) (sym (c .enum-told .given .1))
+    ∙ c .before .before .payload-at .ensures Fields
 
 pub fields-request-at-spec : {M : Type 1} → statement M
 fields-request-at-spec =
