@@ -15,7 +15,7 @@ use sections::{
 };
 
 #[repr(C)]
-#[derive(Drop)]
+#[derive(Clone, Copy)]
 pub struct IndicatorFields {
     pub known: u8,
     pub discipline: u8,
@@ -23,7 +23,7 @@ pub struct IndicatorFields {
 }
 
 #[repr(C)]
-#[derive(Drop)]
+#[derive(Clone, Copy)]
 pub struct IdentificationFields {
     pub known: u8,
     pub master: u8,
@@ -42,7 +42,7 @@ pub struct IdentificationFields {
 }
 
 #[repr(C)]
-#[derive(Drop)]
+#[derive(Clone, Copy)]
 pub struct GridFields {
     pub known: u8,
     pub template: u16,
@@ -50,7 +50,7 @@ pub struct GridFields {
 }
 
 #[repr(C)]
-#[derive(Drop)]
+#[derive(Clone, Copy)]
 pub struct RepresentationFields {
     pub known: u8,
     pub template: u16,
@@ -58,7 +58,7 @@ pub struct RepresentationFields {
 }
 
 #[repr(C)]
-#[derive(Drop)]
+#[derive(Clone, Copy)]
 pub struct BitMapFields {
     pub known: u8,
     pub indicator: u8,

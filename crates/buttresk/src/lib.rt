@@ -3,6 +3,8 @@
 // over lent octets and numbers that answer structs of numbers. Each is a thin coat over the library.
 // The header has these structs field by field, under the same names but for two that a language
 // keeps for itself: `template_number`, `type`.
+#![tactic(auto)]
+
 mod fields;
 mod listing;
 mod product;

@@ -7,7 +7,7 @@ ghost use Rattle.buttresk.specs.Lists.{read_answer_of};
 use lists::{ListAnswer, list_end, read_list};
 
 #[repr(C)]
-#[derive(Drop)]
+#[derive(Clone, Copy)]
 pub struct ReadAnswer {
     pub entries: u64,
     pub outcome: u64,

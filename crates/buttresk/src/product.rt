@@ -14,14 +14,14 @@ use products::{
 use sections::{MaybeProdDefinition, ProdDefinition};
 
 #[repr(C)]
-#[derive(Drop)]
+#[derive(Clone, Copy)]
 pub struct OctetField {
     pub known: u8,
     pub value: u8,
 }
 
 #[repr(C)]
-#[derive(Drop)]
+#[derive(Clone, Copy)]
 pub struct TimeField {
     pub known: u8,
     pub unit: u8,
@@ -29,7 +29,7 @@ pub struct TimeField {
 }
 
 #[repr(C)]
-#[derive(Drop)]
+#[derive(Clone, Copy)]
 pub struct Surface {
     pub surface: u8,
     pub factor: i32,
@@ -38,7 +38,7 @@ pub struct Surface {
 
 // Both surfaces or none.
 #[repr(C)]
-#[derive(Drop)]
+#[derive(Clone, Copy)]
 pub struct SurfacesField {
     pub known: u8,
     pub first: Surface,
@@ -46,7 +46,7 @@ pub struct SurfacesField {
 }
 
 #[repr(C)]
-#[derive(Drop)]
+#[derive(Clone, Copy)]
 pub struct ProductFields {
     pub known: u8,
     pub coordinates: u16,
@@ -60,14 +60,14 @@ pub struct ProductFields {
 
 // Time and surfaces of one payload.
 #[repr(C)]
-#[derive(Drop)]
+#[derive(Clone, Copy)]
 pub struct WhenWhereFields {
     pub time: TimeField,
     pub surfaces: SurfacesField,
 }
 
 // What every section 4 has, whatever its template.
-#[derive(Drop)]
+#[derive(Clone, Copy)]
 struct DefinitionFields {
     known: u8,
     coordinates: u16,
@@ -191,7 +191,7 @@ const AS_CRATE: u64 = 1;
 // The number of the one by the Manual.
 const BY_MANUAL: u64 = 2;
 
-#[derive(Drop)]
+#[derive(Clone, Copy)]
 enum MaybeReading {
     Named(TemplateReading),
     NoReading,

@@ -16,7 +16,7 @@ use publish::{copy_end, publish};
 use writer::{write, write_end};
 
 #[repr(C)]
-#[derive(Drop)]
+#[derive(Clone, Copy)]
 pub struct StoreAnswer {
     pub outcome: u64,
     pub place: u64,

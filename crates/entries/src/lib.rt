@@ -1,11 +1,13 @@
 // An entry of the inventory (document 02, Ticket 1): one line of text for each submessage.
+#![tactic(auto)]
+
 mod line;
 
 use framing::Offset;
 pub use line::spell;
 use products::{MaybeOctet, MaybeTime};
 
-#[derive(Drop)]
+#[derive(Clone, Copy)]
 pub struct Entry {
     // Each counted from 0.
     pub message: u64,
@@ -25,7 +27,7 @@ pub const MOST_LINE: usize = 98;
 
 // The line of an entry: the octets from `start` on. It is written from its end, so that no number
 // need be measured before it is spelled.
-#[derive(Drop)]
+#[derive(Clone, Copy)]
 pub struct Spelled {
     pub octets: [u8; MOST_LINE],
     pub start: usize,

@@ -10,7 +10,7 @@ use Rattle.octets.specs.BigEndian.{be_at}
 use Rattle.framing.specs.Search.{says, starts_at, IsNextStart}
 use Rattle.framing.specs.Framing.{read_at}
 use Rattle.framing.specs.Listing.{Listing, listed_by, listing_from, listing}
-use Rattle.framing.specs.LaidOut.{Spells, HasGrib, FirstGrib, section_of, LaidOut, nothing_more, indicator_next, end_next, headed_next, ListingIsLaidOut}
+use Rattle.framing.specs.LaidOut.{stated_length, Spells, HasGrib, FirstGrib, section_of, LaidOut, nothing_more, indicator_next, end_next, headed_next, ListingIsLaidOut}
 use Rattle.framing.specs.declared.search.Found.TheVariants.{At}
 use Rattle.framing.specs.declared.read.Section.{Section}
 use Rattle.framing.specs.declared.read.Cursor.{Cursor}
@@ -108,7 +108,15 @@ listing_is_laid_out file = laid_from file (length file + 1) 0 0
 pub beginning_is_laid_out : {file : List ℕ} {at rest : ℕ} (some more : List Section) → LaidOut file at rest (some ++ more)
     → LaidOut file at rest some
 beginning_is_laid_out [] more l = nothing_more
-beginning_is_laid_out (s ∷ some) more (indicator_next first total l) = indicator_next first total (beginning_is_laid_out some more l)
-beginning_is_laid_out (s ∷ some) more (end_next sevens l) = end_next sevens (beginning_is_laid_out some more l)
-beginning_is_laid_out (s ∷ some) more (headed_next a b number inside taken l) =
-    headed_next a b number inside taken (beginning_is_laid_out some more l)
+beginning_is_laid_out {at = at} (s ∷ some) more (indicator_next {g = g} {rest = rest} first total l) =
+    indicator_next first total (beginning_is_laid_out {at = g + 16} {rest = rest} some more l)
+beginning_is_laid_out {at = at} (s ∷ some) more (end_next sevens l) =
+    end_next sevens (beginning_is_laid_out {at = at + 4} {rest = 0} some more l)
+beginning_is_laid_out {file = file} {at = at} (s ∷ some) more (headed_next {later = later} a b number inside taken l) =
+    headed_next
+    a
+    b
+    number
+    inside
+    taken
+    (beginning_is_laid_out {at = at + stated_length file at} {rest = later} some more l)

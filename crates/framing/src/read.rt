@@ -13,11 +13,11 @@ use sections::{
 };
 
 // An octet of the file, counted from 0. A section's place in the list is another quantity.
-#[derive(Drop)]
+#[derive(Clone, Copy)]
 pub struct Offset(pub u64);
 
 // A section as the table lists it.
-#[derive(Drop)]
+#[derive(Clone, Copy)]
 pub struct Section {
     pub number: u64,
     pub offset: Offset,
@@ -25,14 +25,14 @@ pub struct Section {
 }
 
 // Where the next read is made, and how many octets of the message are still to come.
-#[derive(Drop)]
+#[derive(Clone, Copy)]
 pub struct Cursor {
     pub at: Offset,
     pub rest: u64,
 }
 
 // Why a section can't be read, in the order of document 01's refusals 2 to 9.
-#[derive(Drop)]
+#[derive(Clone, Copy)]
 pub enum Fault {
     // The file ends inside a header, inside section 8 or inside a payload that is read: so many
     // octets are missing, one at least, and no more than a length of four octets can state.
@@ -55,7 +55,7 @@ pub enum Fault {
 
 // A read as every way through the code answers it, each field always set: an enum whose variants
 // differ costs a step a dozen copies.
-#[derive(Drop)]
+#[derive(Clone, Copy)]
 pub struct Framed {
     pub how: How,
     // The section; of one that is refused the offset alone says something.
@@ -63,7 +63,7 @@ pub struct Framed {
     pub next: Cursor,
 }
 
-#[derive(Drop)]
+#[derive(Clone, Copy)]
 pub enum How {
     Whole,
     Over,

@@ -4,7 +4,7 @@
 pub const MOST_OCTETS: u64 = 1_099_511_627_776;
 
 // How many rows and lines the lent tables hold.
-#[derive(Drop)]
+#[derive(Clone, Copy)]
 pub struct Room {
     pub rows: u64,
     pub lines: u64,

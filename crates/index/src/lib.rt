@@ -1,6 +1,8 @@
 // What a file's index is (document 01, "Order", "Refusal numbers"; the crate's parser.rs): where
 // its sections are listed, the line of each submessage, how a walk ends and 01's numbers of that.
 // What a walk tells of a file is a definition, specs/Walk.antt; nothing here reads a file.
+#![tactic(auto)]
+
 mod bounds;
 mod line;
 mod listed;

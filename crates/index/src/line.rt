@@ -14,28 +14,28 @@ use sections::{
 const KEPT: usize = 8;
 
 // The place of section 2, which a submessage may not have.
-#[derive(Drop)]
+#[derive(Clone, Copy)]
 pub enum LocalUsePlace {
     At(Place),
     Absent,
 }
 
 // Where a message stands: the octet offset of its section 0, and the total length stated there.
-#[derive(Drop)]
+#[derive(Clone, Copy)]
 pub struct Span {
     pub offset: Offset,
     pub total: u64,
 }
 
 // What stands behind a submessage: more of its message, or the section 8 that closes it.
-#[derive(Drop)]
+#[derive(Clone, Copy)]
 pub enum MessageEnd {
     GoesOn,
     ClosedAt(Place),
 }
 
 // A line of the submessage table.
-#[derive(Drop)]
+#[derive(Clone, Copy)]
 pub struct Line {
     pub message: u64,
     pub submessage: u64,
@@ -54,7 +54,7 @@ pub struct Line {
 
 // What is in force inside a message: what its section 0 stated, and for each section number the
 // place of the last section that had it.
-#[derive(Drop)]
+#[derive(Clone, Copy)]
 pub struct Force {
     pub message: u64,
     pub submessage: u64,

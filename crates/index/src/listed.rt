@@ -5,7 +5,7 @@ ghost use Rattle.index.specs.Lines.{unlisted};
 use framing::{Offset, Section};
 use order::Place;
 
-#[derive(Drop)]
+#[derive(Clone, Copy)]
 pub struct Listed {
     pub place: Place,
     pub section: Section,

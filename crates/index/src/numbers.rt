@@ -15,7 +15,7 @@ use crate::refusal::{Outcome, Refusal};
 use framing::Fault;
 
 // How a walk ended, in numbers.
-#[derive(Drop)]
+#[derive(Clone, Copy)]
 pub struct End {
     pub outcome: u64,
     pub place: u64,
@@ -24,7 +24,7 @@ pub struct End {
 }
 
 // How a call of the public copy or of the writer ended, and the octets written.
-#[derive(Drop)]
+#[derive(Clone, Copy)]
 pub struct StoreEnd {
     pub end: End,
     pub written: u64,

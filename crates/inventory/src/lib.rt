@@ -1,5 +1,7 @@
 // The inventory of a file (document 02, Ticket 1): a line of text for each submessage, in a lent
 // buffer, and only if the whole file walks clean and the text fits.
+#![tactic(auto)]
+
 ghost use Rattle.std.specs.Prelude.{◌≡◌};
 ghost use Rattle.inventory.specs.Inventory.{inventory_of};
 ghost use Rattle.inventory.specs.End.{inventory_end};
@@ -14,7 +16,7 @@ use lines::put_lines;
 use order::Place;
 use products::ROWS;
 
-#[derive(Drop)]
+#[derive(Clone, Copy)]
 pub enum Inventoried {
     // The text stands in the buffer's first octets, so many of them.
     Whole(usize),

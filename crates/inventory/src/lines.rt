@@ -17,7 +17,7 @@ use reading::{Seen, look, start};
 use sections::{Indicator, MaybeIndicator, ProdDefinition};
 
 // How the walk ends, and the octets of all lines.
-#[derive(Drop)]
+#[derive(Clone, Copy)]
 pub(crate) struct Listing {
     pub outcome: Outcome,
     pub octets: usize,

@@ -12,7 +12,7 @@ use index::unlisted;
 use products::{MaybeOctet, MaybeSurfaces, Product};
 use sections::{HEADER_SIZE, Indicator, ProdDefinition};
 
-#[derive(Drop)]
+#[derive(Clone, Copy)]
 pub(crate) struct Memory {
     pub message: u64,
     pub submessage: u64,

@@ -8,7 +8,7 @@ use order::Place;
 use reading::Seen;
 
 // The line that a section makes due, by completing a submessage.
-#[derive(Drop)]
+#[derive(Clone, Copy)]
 pub(crate) enum Due {
     NoLine,
     // The message goes on.

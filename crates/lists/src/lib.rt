@@ -1,5 +1,7 @@
 // The reader of a list (document 02, Ticket 1): the lines of a lent text, as entries in a lent
 // table.
+#![tactic(auto)]
+
 ghost use Rattle.std.specs.Prelude.{◌≡◌};
 ghost use Rattle.lists.specs.Lists.{read_of};
 ghost use Rattle.lists.specs.End.{list_end};
@@ -12,7 +14,7 @@ use line::{LineAt, line_at};
 use table::{ENTRY, put_entry};
 
 // How the reading of a list ends.
-#[derive(Drop)]
+#[derive(Clone, Copy)]
 pub enum ListEnd {
     AllRead,
     // 21: a line is not in this form; its number, from 1.
@@ -22,7 +24,7 @@ pub enum ListEnd {
 }
 
 // How many entries stand in the table, and how the reading ended.
-#[derive(Drop)]
+#[derive(Clone, Copy)]
 pub struct ListAnswer {
     pub entries: u64,
     pub end: ListEnd,

@@ -35,27 +35,27 @@ const LINE_FEED: u8 = b'\n';
 
 const BEHIND_NINE: u8 = b'9' + 1;
 
-#[derive(Drop)]
+#[derive(Clone, Copy)]
 enum NumberAt {
     Number(u64, usize),
     NoNumber,
 }
 
 // A field that can be none.
-#[derive(Drop)]
+#[derive(Clone, Copy)]
 enum OctetAt {
     Field(MaybeOctet, usize),
     NoField,
 }
 
 // Time unit and time.
-#[derive(Drop)]
+#[derive(Clone, Copy)]
 enum TimeAt {
     Fields(MaybeTime, usize),
     NoFields,
 }
 
-#[derive(Drop)]
+#[derive(Clone, Copy)]
 struct FirstFour {
     message: u64,
     submessage: u64,
@@ -63,13 +63,13 @@ struct FirstFour {
     discipline: u8,
 }
 
-#[derive(Drop)]
+#[derive(Clone, Copy)]
 enum FirstFourAt {
     Four(FirstFour, usize),
     NotFour,
 }
 
-#[derive(Drop)]
+#[derive(Clone, Copy)]
 struct LastFive {
     category: MaybeOctet,
     number: MaybeOctet,
@@ -77,13 +77,13 @@ struct LastFive {
     surface: MaybeOctet,
 }
 
-#[derive(Drop)]
+#[derive(Clone, Copy)]
 enum LastFiveAt {
     Five(LastFive, usize),
     NotFive,
 }
 
-#[derive(Drop)]
+#[derive(Clone, Copy)]
 pub(crate) enum LineAt {
     Line(Entry, usize),
     NoLine,

@@ -1,11 +1,13 @@
 // Numbers written in octets (document 01, "What is ported", 1; the crate's helpers.rs): big-endian
 // numbers of 2, 4 and 8 octets, and numbers by sign and size of 1 to 4.
+#![tactic(auto)]
+
 ghost use Rattle.std.specs.Prelude.{◌≡◌, ◌-◌, ◌*◌, ◌^◌, ◌<◌, ◌≤◌, pos, neg_ℤ, length};
 ghost use Rattle.octets.specs.BigEndian.{be_at};
 ghost use Rattle.octets.specs.Signed.{signed_of};
 
 // What a slice writes by sign and size.
-#[derive(Drop)]
+#[derive(Clone, Copy)]
 pub enum Signed {
     Number(i32),
     NoNumber,

@@ -1,5 +1,7 @@
 // Which section may come next (document 01, "Order"; the crate's parser.rs, the validator). It
 // knows section numbers only, no file.
+#![tactic(auto)]
+
 ghost use Rattle.std.specs.Prelude.{◌≡◌};
 ghost use Rattle.order.specs.Order.{only, after_identification, at_submessage_start, judged};
 ghost use Rattle.order.specs.Order.{judged_read, completes, is_between, order_of};
@@ -11,11 +13,11 @@ use sections::{
 
 // A section's place in the list of sections, counted from 0 over the whole file. Its octet offset
 // is another quantity.
-#[derive(Drop)]
+#[derive(Clone, Copy)]
 pub struct Place(pub u64);
 
 // What was read last.
-#[derive(Drop)]
+#[derive(Clone, Copy)]
 pub enum Order {
     BetweenMessages,
     AfterIndicator,
@@ -31,7 +33,7 @@ pub enum Order {
 }
 
 // What a section is, by its number.
-#[derive(Drop)]
+#[derive(Clone, Copy)]
 pub enum Judged {
     // It may come next, and is then what was read last.
     Fits(Order),
@@ -44,7 +46,7 @@ pub enum Judged {
 }
 
 // What the order says of a whole list of numbers.
-#[derive(Drop)]
+#[derive(Clone, Copy)]
 pub enum Verdict {
     Clean,
     // The list ends inside a message: refusal 10.

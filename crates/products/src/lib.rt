@@ -1,6 +1,8 @@
 // Product fields (document 01, "Fields"; the crate's ProdDefinition): what a payload of section 4
 // says by its template. The template begins at payload octet 4; what stands where in it is asked of
 // `templates`.
+#![tactic(auto)]
+
 ghost use Rattle.std.specs.Prelude.{◌≡◌, drop};
 ghost use Rattle.products.specs.Products.{octet_of, time_of, surface_of, surfaces_of};
 ghost use Rattle.products.specs.Products.{supported_of, by_index, when_where_of};
@@ -22,26 +24,26 @@ const CATEGORY: usize = 0;
 
 const PARAMETER: usize = 1;
 
-#[derive(Drop)]
+#[derive(Clone, Copy)]
 pub enum MaybeOctet {
     Octet(u8),
     NoOctet,
 }
 
-#[derive(Drop)]
+#[derive(Clone, Copy)]
 pub struct ForecastTime {
     // Code table 4.4
     pub unit: u8,
     pub time: u32,
 }
 
-#[derive(Drop)]
+#[derive(Clone, Copy)]
 pub enum MaybeTime {
     Time(ForecastTime),
     NoTime,
 }
 
-#[derive(Drop)]
+#[derive(Clone, Copy)]
 pub struct FixedSurface {
     // Code table 4.5
     pub surface: u8,
@@ -49,20 +51,20 @@ pub struct FixedSurface {
     pub value: i32,
 }
 
-#[derive(Drop)]
+#[derive(Clone, Copy)]
 enum MaybeSurface {
     Surface(FixedSurface),
     NoSurface,
 }
 
-#[derive(Drop)]
+#[derive(Clone, Copy)]
 pub enum MaybeSurfaces {
     Both(FixedSurface, FixedSurface),
     NoSurfaces,
 }
 
 // When and where, of one payload: the time or none, and the surfaces or none.
-#[derive(Drop)]
+#[derive(Clone, Copy)]
 pub struct WhenWhere {
     pub time: MaybeTime,
     pub surfaces: MaybeSurfaces,
@@ -70,7 +72,7 @@ pub struct WhenWhere {
 
 // What a payload of section 4 says by its template. Category and number are of the code tables 4.1
 // and 4.2, the generating process of 4.3.
-#[derive(Drop)]
+#[derive(Clone, Copy)]
 pub struct Product {
     pub category: MaybeOctet,
     pub number: MaybeOctet,
@@ -80,7 +82,7 @@ pub struct Product {
 }
 
 // The template number of a payload that has a supported one.
-#[derive(Drop)]
+#[derive(Clone, Copy)]
 enum Supported {
     Template(u16),
     NoTemplate,

@@ -8,7 +8,7 @@ ghost use Rattle.products.specs.Rows.{none, column, columns, offsets_by};
 ghost use Rattle.products.specs.declared.templates.TemplateReading.TheVariants.{ByManual};
 
 // An octet of a template, counted from the template's first one.
-#[derive(Drop)]
+#[derive(Clone, Copy)]
 pub enum Index {
     At(usize),
     Absent,
@@ -17,14 +17,14 @@ pub enum Index {
 // By whom templates are read (document 02, Ticket 6): as the crate and document 01 do, or by the
 // Manual. They differ in the time of 4.44 and in the generating process of 4.47. A caller names
 // one.
-#[derive(Drop)]
+#[derive(Clone, Copy)]
 pub enum TemplateReading {
     AsCrate,
     ByManual,
 }
 
 // How many octets a time has behind its unit.
-#[derive(Drop)]
+#[derive(Clone, Copy)]
 pub enum TimeOctets {
     Two,
     Four,
@@ -32,7 +32,7 @@ pub enum TimeOctets {
 
 // Where a template holds what a product is asked for: the type of generating process, the unit of
 // time with the time, so many octets wide, behind it, the first surface with the second behind it.
-#[derive(Drop)]
+#[derive(Clone, Copy)]
 pub struct Offsets {
     pub process: Index,
     pub time: Index,

@@ -1,6 +1,8 @@
 // The public copy of a file (document 01, "Values octets and the public copy"): the file with every
 // values octet and every octet outside a message set to zero, in a second lent buffer, and only if
 // the whole file walks clean. Values octets are never read.
+#![tactic(auto)]
+
 ghost use Rattle.std.specs.Prelude.{◌≡◌, ◌++◌, true, false, ℕ, ◌≤◌, ◌<◌, leb, length, drop};
 ghost use Rattle.index.specs.Bounds.{most_octets, unlimited};
 ghost use Rattle.index.specs.Walk.{at_start, walked};
@@ -19,7 +21,7 @@ use reading::{Reading, Seen, look, start};
 use sections::{Values, values_of};
 
 // What a call answers.
-#[derive(Drop)]
+#[derive(Clone, Copy)]
 pub enum Published {
     // The copy stands in the destination's first octets, as many as the file has.
     Whole(usize),
@@ -150,7 +152,7 @@ fn put_section(file: &[u8], dest: &mut [u8], done: usize, s: Section)
 }
 
 // A section that is passed, and where to read on.
-#[derive(Drop)]
+#[derive(Clone, Copy)]
 enum Passed {
     Section(Section, Reading),
     Ended,

@@ -1,6 +1,8 @@
 // The pull reader (document 01, "Order"; the crate's Grib2SectionStream): a struct that keeps the
 // lent file and the place of its reading together, and hands out one passed section a call. `first`
 // and `pull_at` are the same over plain parameters.
+#![tactic(auto)]
+
 ghost use Rattle.std.specs.Prelude.{◌≡◌};
 ghost use Rattle.pull.specs.Calls.{first_of, further, handed_out, stopped, pull_at};
 ghost use Rattle.pull.specs.declared.Pulled.TheVariants.{Refused};
@@ -11,7 +13,7 @@ use order::Place;
 use reading::{Reading, Seen, look, start};
 
 // What a call hands out.
-#[derive(Drop)]
+#[derive(Clone, Copy)]
 pub enum Pulled {
     Passed(Listed),
     // Why, and the place and the offset of the section at fault.
@@ -21,7 +23,7 @@ pub enum Pulled {
 
 // Where the reading stands: the place of the section that is read next, the section passed last,
 // and whether the end was told.
-#[derive(Drop)]
+#[derive(Clone, Copy)]
 pub struct Progress {
     pub reading: Reading,
     pub place: Place,
@@ -29,7 +31,7 @@ pub struct Progress {
     pub over: bool,
 }
 
-#[derive(Drop)]
+#[derive(Clone, Copy)]
 pub struct Pull {
     pub answer: Pulled,
     pub next: Progress,

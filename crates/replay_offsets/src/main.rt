@@ -1,4 +1,6 @@
 // `replay` over the stored list of the templates' offsets.
+#![tactic(auto)]
+
 fn main() {
     replaying::answer_requests();
 }

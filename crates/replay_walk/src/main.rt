@@ -1,5 +1,7 @@
 // `replay` over the stored list of walks, of walks whose tables fill, and of pulls; the end of
 // the input cuts the last request.
+#![tactic(auto)]
+
 fn main() {
     replaying::answer_requests();
 }

@@ -14,7 +14,7 @@ pub(crate) const LINES: usize = 512;
 // The largest section table: 2,048 rows of three numbers.
 pub(crate) const NUMBERS: usize = 6_144;
 
-#[derive(Drop)]
+#[derive(Clone, Copy)]
 pub(crate) struct Desk {
     pub answer: Answer,
     pub lines: [Line; LINES],

@@ -14,7 +14,7 @@ const FURTHER_CALLS: u64 = 3;
 
 // Whether the reader is called again, how often it has ended, and how many calls are left: that
 // number falls with each, so that the calls end whatever the reader says.
-#[derive(Drop)]
+#[derive(Clone, Copy)]
 pub(crate) struct Telling {
     pub(crate) going: bool,
     pub(crate) ended: u64,

@@ -61,20 +61,20 @@ const AS_CRATE: u8 = 0;
 const BY_MANUAL: u8 = 1;
 
 // The file of a request that is answered into a destination of so many octets.
-#[derive(Drop)]
+#[derive(Clone, Copy)]
 pub(crate) enum FileInto {
     Whole { room: u32, from: usize, to: usize },
     Bad,
 }
 
 // The payload of a request, and the number before it.
-#[derive(Drop)]
+#[derive(Clone, Copy)]
 pub(crate) enum NumberedPayload {
     Whole { number: u8, from: usize, to: usize },
     Bad,
 }
 
-#[derive(Drop)]
+#[derive(Clone, Copy)]
 pub(crate) enum MaybeReading {
     Named(TemplateReading),
     NoReading,

@@ -1,5 +1,7 @@
 // Requests, read off the input (docs/REPLAY.md, the table of kinds). A kind is one case of
 // `Request`, one function of `kinds` that reads it and one arm of `request_at`.
+#![tactic(auto)]
+
 mod kinds;
 mod numbers;
 
@@ -33,7 +35,7 @@ const OFFSETS: u8 = b'O';
 const WHEN_WHERE: u8 = b'T';
 
 // A request's octets are those of the input from `from` up to `to`, where the next request starts.
-#[derive(Drop)]
+#[derive(Clone, Copy)]
 pub enum Request {
     // With so many numbers in the section table, and so many lines in the submessage table.
     Walk {
@@ -92,7 +94,7 @@ pub enum Request {
 }
 
 // A message to be written: its plan and its store are octets of the input.
-#[derive(Drop)]
+#[derive(Clone, Copy)]
 pub struct Writing {
     pub discipline: u8,
     // The two reserved octets.

@@ -5,13 +5,13 @@ ghost use Rattle.sections.specs.BitMap.{bit_map_of};
 
 use crate::kinds::{Extent, Kind, Values};
 
-#[derive(Drop)]
+#[derive(Clone, Copy)]
 pub struct BitMap {
     // Code table 6.0
     pub indicator: u8,
 }
 
-#[derive(Drop)]
+#[derive(Clone, Copy)]
 pub enum MaybeBitMap {
     Fields(BitMap),
     NoBitMap,

@@ -6,7 +6,7 @@ ghost use Rattle.sections.specs.GridDefinition.{grid_definition_of};
 use crate::kinds::{Extent, Kind, Values};
 use octets::{be16, be32};
 
-#[derive(Drop)]
+#[derive(Clone, Copy)]
 pub struct GridDefinition {
     // Data points of the grid
     pub points: u32,
@@ -14,7 +14,7 @@ pub struct GridDefinition {
     pub template: u16,
 }
 
-#[derive(Drop)]
+#[derive(Clone, Copy)]
 pub enum MaybeGridDefinition {
     Fields(GridDefinition),
     NoGridDefinition,

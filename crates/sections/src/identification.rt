@@ -6,7 +6,7 @@ ghost use Rattle.sections.specs.Identification.{identification_of};
 use crate::kinds::{Extent, Kind, Values};
 use octets::be16;
 
-#[derive(Drop)]
+#[derive(Clone, Copy)]
 pub struct Identification {
     // Common code table C-11
     pub centre: u16,
@@ -30,7 +30,7 @@ pub struct Identification {
     pub processed: u8,
 }
 
-#[derive(Drop)]
+#[derive(Clone, Copy)]
 pub enum MaybeIdentification {
     Fields(Identification),
     NoIdentification,

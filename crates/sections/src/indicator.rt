@@ -6,7 +6,7 @@ ghost use Rattle.sections.specs.Indicator.{indicator_of};
 use crate::kinds::{Extent, Kind, Values};
 use octets::be64;
 
-#[derive(Drop)]
+#[derive(Clone, Copy)]
 pub struct Indicator {
     // Code table 0.0
     pub discipline: u8,
@@ -14,7 +14,7 @@ pub struct Indicator {
     pub total: u64,
 }
 
-#[derive(Drop)]
+#[derive(Clone, Copy)]
 pub enum MaybeIndicator {
     Fields(Indicator),
     NoIndicator,

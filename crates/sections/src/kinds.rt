@@ -14,7 +14,7 @@ use crate::unread::{DataSection, EndSection, LocalUse};
 pub const HEADER_SIZE: usize = 5;
 
 // How large a section of a kind is, in octets.
-#[derive(Drop)]
+#[derive(Clone, Copy)]
 pub enum Extent {
     // No header: every section of the kind has this size.
     WholeSize(usize),
@@ -23,28 +23,28 @@ pub enum Extent {
 }
 
 // The octets that carry values, counted from 1 at the section's first octet.
-#[derive(Drop)]
+#[derive(Clone, Copy)]
 pub enum Values {
     // From this octet to the section's end.
     FromOctet(usize),
     Nowhere,
 }
 
-#[derive(Drop)]
+#[derive(Clone, Copy)]
 pub struct Kind {
     pub number: u64,
     pub extent: Extent,
     pub values: Values,
 }
 
-#[derive(Drop)]
+#[derive(Clone, Copy)]
 pub enum MaybeKind {
     Known(Kind),
     Unknown,
 }
 
 // The least payload of a section that stands behind a header.
-#[derive(Drop)]
+#[derive(Clone, Copy)]
 pub enum LeastOf {
     Octets(usize),
     NoHeader,

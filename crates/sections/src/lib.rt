@@ -1,6 +1,8 @@
 // The section kinds of GRIB edition 2 and their decoded fields (document 01, "Framing" and
 // "Fields"; the crate's datatypes/sections.rs). One file a kind; `unread` has the three kinds of
 // which no field is decoded, and `kinds` what all nine have in common.
+#![tactic(auto)]
+
 mod bit_map;
 mod grid_definition;
 mod identification;

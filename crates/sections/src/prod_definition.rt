@@ -7,7 +7,7 @@ ghost use Rattle.sections.specs.ProdDefinition.{prod_definition_of};
 use crate::kinds::{Extent, Kind, Values};
 use octets::be16;
 
-#[derive(Drop)]
+#[derive(Clone, Copy)]
 pub struct ProdDefinition {
     // Coordinate values behind the template
     pub coordinates: u16,
@@ -15,7 +15,7 @@ pub struct ProdDefinition {
     pub template: u16,
 }
 
-#[derive(Drop)]
+#[derive(Clone, Copy)]
 pub enum MaybeProdDefinition {
     Fields(ProdDefinition),
     NoProdDefinition,

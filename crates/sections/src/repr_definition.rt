@@ -6,7 +6,7 @@ ghost use Rattle.sections.specs.ReprDefinition.{repr_definition_of};
 use crate::kinds::{Extent, Kind, Values};
 use octets::{be16, be32};
 
-#[derive(Drop)]
+#[derive(Clone, Copy)]
 pub struct ReprDefinition {
     // Data points that have a value in section 7
     pub points: u32,
@@ -14,7 +14,7 @@ pub struct ReprDefinition {
     pub template: u16,
 }
 
-#[derive(Drop)]
+#[derive(Clone, Copy)]
 pub enum MaybeReprDefinition {
     Fields(ReprDefinition),
     NoReprDefinition,

@@ -5,7 +5,7 @@ ghost use Rattle.sections.specs.Kinds.{local_use, data_section, end_section};
 use crate::kinds::{Extent, Kind, Values};
 
 // Section 2, the local use section.
-#[derive(Drop)]
+#[derive(Clone, Copy)]
 pub struct LocalUse;
 
 impl LocalUse {
@@ -27,7 +27,7 @@ impl LocalUse {
 }
 
 // Section 7, the data section: the values themselves.
-#[derive(Drop)]
+#[derive(Clone, Copy)]
 pub struct DataSection;
 
 impl DataSection {
@@ -49,7 +49,7 @@ impl DataSection {
 }
 
 // Section 8, the end section: "7777".
-#[derive(Drop)]
+#[derive(Clone, Copy)]
 pub struct EndSection;
 
 impl EndSection {

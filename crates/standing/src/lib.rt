@@ -2,6 +2,8 @@
 // that it passed. What is in force is not here: its places are written one by one, and a copy of
 // all eight at each section would cost half as much as the rest; where the message stands only its
 // section 0 changes.
+#![tactic(auto)]
+
 ghost use Rattle.std.specs.Prelude.{◌≡◌};
 ghost use Rattle.standing.specs.Put.{row_put};
 ghost use Rattle.standing.specs.Standing.{one_more, total_of, span_after, passed_row};
@@ -19,7 +21,7 @@ pub const ROW: usize = 3;
 // Section numbers that a place is kept for: all but the end section's.
 pub const KEPT: usize = 8;
 
-#[derive(Drop)]
+#[derive(Clone, Copy)]
 pub struct Standing {
     // Where the next section is looked for.
     pub reading: Reading,

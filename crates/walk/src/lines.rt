@@ -13,7 +13,7 @@ use sections::LocalUse;
 use standing::{ROW, Standing, passed_row, put_row, span_after};
 
 // How many lines stand in each table, how many messages were closed, and how the walk ended.
-#[derive(Drop)]
+#[derive(Clone, Copy)]
 pub struct Answer {
     pub sections: u64,
     pub submessages: u64,
@@ -33,7 +33,7 @@ fn put_passed(rows: &mut [u64], passed: bool, s: Listed)
 }
 
 // What is seen: a section that passes, whose row is all that comes of it; or more.
-#[derive(Drop)]
+#[derive(Clone, Copy)]
 enum Only {
     Row(Section, Reading),
     More,

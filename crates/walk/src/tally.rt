@@ -14,7 +14,7 @@ use order::{Place, completing};
 use reading::{Reading, Seen, start};
 use standing::{KEPT, Standing, one_more, span_after};
 
-#[derive(Drop)]
+#[derive(Clone, Copy)]
 pub(crate) struct Tally {
     // Where the next section is looked for.
     pub reading: Reading,

@@ -16,7 +16,7 @@ use standing::{KEPT, ROW, Standing, passed_row, put_row, span_after};
 
 // How many lines stand in each table, how many messages were closed, and how the walk ended.
 #[repr(C)]
-#[derive(Drop)]
+#[derive(Clone, Copy)]
 pub struct WalkAnswer {
     pub sections: u64,
     pub submessages: u64,
