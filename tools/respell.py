@@ -19,6 +19,8 @@ TOKEN = re.compile(r"[^\s(){}.,;@«»\[\]]+")
 HUMP = re.compile(r"[a-z0-9'][A-Z]")
 DECLARED = re.compile(r"^\s*(?:(?:unfoldable|abbrev|pub|data|record|codata|opaque|private) )*"
                       r"([^\s:({]+)(?:\s*[({][^=]*)?\s*:(?!=)(.*)$")
+# a lemma of a section or of a `where`
+NESTED = re.compile(r"^ +(?:(?:unfoldable|abbrev|pub) )*([a-z][\w']*-[^\s:({.]*)(?:\s*[({][^=]*)?\s*:(?!=)(.*)$")
 SKIPPED = ("use ", "pub use ", "--", "open ", "unfolding ", "module ", "mod ", "pub mod ")
 # lemmas of one file, and of the files that take them from it, whose name a definition gets
 FALL_TOGETHER = {
@@ -66,7 +68,7 @@ def declared(path, text):
                 continue
             found = DECLARED.match(line)
         else:
-            found = DECLARED.match(line) if inside and re.match(r"^  (?! )", line) else None
+            found = NESTED.match(line) or (inside and re.match(r"^  (?! )", line) and DECLARED.match(line))
         if found:
             yield found.group(1), found.group(2)
 

@@ -67,15 +67,15 @@ module _ {file : List ℕ} {ss : List Section} where
       → So l.end
   by_end {l} pins So ajar closed = go l.end refl
     where
-      not-0 : (p : Place) → l.end ≡ ClosedAt p → Not (p.0 ≡ 0)
-      not-0 p e zeroth =
+      not_0 : (p : Place) → l.end ≡ ClosedAt p → Not (p.0 ≡ 0)
+      not_0 p e zeroth =
           let goes_on : l.end ≡ GoesOn = pins.goes_on λ there. (let same = ap ninth_of (sym e ∙ pins.closed there) in omega arith) in
           let never : ◌≡◌ {A = ℕ} 1 0 = ap closings (sym e ∙ goes_on) in
           omega arith
 
       go : (e : MessageEnd) → l.end ≡ e → So e
       go GoesOn e = ajar
-      go (ClosedAt p) e = closed p (not-0 p e)
+      go (ClosedAt p) e = closed p (not_0 p e)
 
   -- so its end comes back
   end_back : {l : Line} → PinnedLine file ss l → (line_in file (infos_of ss) (submessage_of positions (λ k. k) l)).end ≡ l.end
@@ -83,8 +83,8 @@ module _ {file : List ℕ} {ss : List Section} where
       by_end pins (λ (e : MessageEnd). end_in (kept_end positions (λ k. k) e) ≡ e) refl (λ p other. rw (ne_eqb p.0 0 other))
 
   -- and so does where its message stands
-  span-back : {l : Line} → PinnedLine file ss l → (line_in file (infos_of ss) (submessage_of positions (λ k. k) l)).span ≡ l.span
-  span-back {l} pins =
+  span_back : {l : Line} → PinnedLine file ss l → (line_in file (infos_of ss) (submessage_of positions (λ k. k) l)).span ≡ l.span
+  span_back {l} pins =
       ap (λ (at : ℕ). span (record { 0 = at }) (be_at file (at + 8) 8)) (offset_back ss _ ∙ sym (ap (λ (o : Offset). o.0) pins.offset))
       ∙ ap (λ (total : ℕ). span l.span.offset total) (sym pins.total)
 
@@ -93,7 +93,7 @@ pub lines_back : (file : List ℕ) (ss : List Section) (ls : List Line) → Ever
     → map (λ (s : Submessage ℕ). line_in file (infos_of ss) s) (submessages_of positions (λ k. k) ls) ≡ ls
 lines_back file ss [] pins = refl
 lines_back file ss (l ∷ ls) pins =
-    rw (local_back l.local, end_back pins.0, span-back pins.0, lines_back file ss ls pins.1)
+    rw (local_back l.local, end_back pins.0, span_back pins.0, lines_back file ss ls pins.1)
 
 pub as_many : (ss : List Section) → length (infos_of ss) ≡ length ss
 as_many [] = refl
@@ -150,30 +150,30 @@ module _ (file : List ℕ) where
   counted f p o e n0 n1 n10 =
       as_many ss ∙ sym (place_is_count unlimited file (fault_number f) p.0 o.0 (fault_detail f) n0 n1 n10 (ap end_of e))
 
-  outcome-back : (o : Outcome) → (walked unlimited file).outcome ≡ o → Ordinary o → Not (word_of o ≡ overflow)
+  outcome_back : (o : Outcome) → (walked unlimited file).outcome ≡ o → Ordinary o → Not (word_of o ≡ overflow)
       → outcome_in (end_of o).detail (infos_of ss) (word_of o) ≡ o
   unfolding end_of refusal_number refusal_detail fault_number fault_detail
-  outcome-back outcome.Clean e h no_overflow = refl
-  outcome-back (outcome.Refused refusal.FileTooLong p o) e h no_overflow = absurd h
-  outcome-back (outcome.Refused (refusal.Unreadable (fault.Cut missing)) p o) e h no_overflow =
+  outcome_back outcome.Clean e h no_overflow = refl
+  outcome_back (outcome.Refused refusal.FileTooLong p o) e h no_overflow = absurd h
+  outcome_back (outcome.Refused (refusal.Unreadable (fault.Cut missing)) p o) e h no_overflow =
       rw (counted (fault.Cut missing) p o e (λ z. omega arith) (λ z. omega arith) (λ z. omega arith)) refl
-  outcome-back (outcome.Refused (refusal.Unreadable (fault.OtherEdition edition)) p o) e h no_overflow =
+  outcome_back (outcome.Refused (refusal.Unreadable (fault.OtherEdition edition)) p o) e h no_overflow =
       rw (counted (fault.OtherEdition edition) p o e (λ z. omega arith) (λ z. omega arith) (λ z. omega arith)) refl
-  outcome-back (outcome.Refused (refusal.Unreadable fault.TotalUnder16) p o) e h no_overflow = absurd (no_overflow refl)
-  outcome-back (outcome.Refused (refusal.Unreadable fault.NotEndMark) p o) e h no_overflow =
+  outcome_back (outcome.Refused (refusal.Unreadable fault.TotalUnder16) p o) e h no_overflow = absurd (no_overflow refl)
+  outcome_back (outcome.Refused (refusal.Unreadable fault.NotEndMark) p o) e h no_overflow =
       rw (counted fault.NotEndMark p o e (λ z. omega arith) (λ z. omega arith) (λ z. omega arith)) refl
-  outcome-back (outcome.Refused (refusal.Unreadable (fault.LengthUnder5 len)) p o) e h no_overflow = absurd (no_overflow refl)
-  outcome-back (outcome.Refused (refusal.Unreadable (fault.UnknownNumber number)) p o) e h no_overflow =
+  outcome_back (outcome.Refused (refusal.Unreadable (fault.LengthUnder5 len)) p o) e h no_overflow = absurd (no_overflow refl)
+  outcome_back (outcome.Refused (refusal.Unreadable (fault.UnknownNumber number)) p o) e h no_overflow =
       rw (counted (fault.UnknownNumber number) p o e (λ z. omega arith) (λ z. omega arith) (λ z. omega arith)) refl
-  outcome-back (outcome.Refused (refusal.Unreadable (fault.PayloadUnderLeast size)) p o) e h no_overflow =
+  outcome_back (outcome.Refused (refusal.Unreadable (fault.PayloadUnderLeast size)) p o) e h no_overflow =
       rw (counted (fault.PayloadUnderLeast size) p o e (λ z. omega arith) (λ z. omega arith) (λ z. omega arith)) refl
-  outcome-back (outcome.Refused (refusal.Unreadable (fault.LongerThanRest len)) p o) e h no_overflow = absurd (no_overflow refl)
-  outcome-back (outcome.Refused refusal.InputOver p o) e h no_overflow =
+  outcome_back (outcome.Refused (refusal.Unreadable (fault.LongerThanRest len)) p o) e h no_overflow = absurd (no_overflow refl)
+  outcome_back (outcome.Refused refusal.InputOver p o) e h no_overflow =
       rw (offset_back ss p.0, ← (input_over_at_last unlimited file p.0 o.0 0 (ap end_of e)).1) refl
-  outcome-back (outcome.Refused (refusal.Misplaced number) p o) e h no_overflow = refl
-  outcome-back (outcome.Refused (refusal.NoGrid number) p o) e h no_overflow = refl
-  outcome-back (outcome.Refused refusal.SectionTableFull p o) e h no_overflow = absurd h
-  outcome-back (outcome.Refused refusal.SubmessageTableFull p o) e h no_overflow = absurd h
+  outcome_back (outcome.Refused (refusal.Misplaced number) p o) e h no_overflow = refl
+  outcome_back (outcome.Refused (refusal.NoGrid number) p o) e h no_overflow = refl
+  outcome_back (outcome.Refused refusal.SectionTableFull p o) e h no_overflow = absurd h
+  outcome_back (outcome.Refused refusal.SubmessageTableFull p o) e h no_overflow = absurd h
 
   -- all that the walk tells
   pub told_back : length file ≤ 1099511627776 → Not (word_of (walked unlimited file).outcome ≡ overflow)
@@ -184,5 +184,5 @@ module _ (file : List ℕ) where
         lines_back file ss (walked unlimited file).lines (lines_are_pinned unlimited file),
         closed_back ss,
         ← (messages_are_ends unlimited file),
-        outcome-back (walked unlimited file).outcome refl (rw (unlimited_held file most) (ordinary _ _ _)) no_overflow,
+        outcome_back (walked unlimited file).outcome refl (rw (unlimited_held file most) (ordinary _ _ _)) no_overflow,
       )

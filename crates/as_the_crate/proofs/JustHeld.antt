@@ -84,10 +84,10 @@ module _ (file : List ℕ) (room : Room) where
   by_read n r false (read.Refused fault offset) ih just = (refl, refl)
 
   -- read by read
-  down-both : (n at rest : ℕ) (r : Reached) → JustThat r (listing_from n file at rest) (crate_listing n file at rest)
+  down_both : (n at rest : ℕ) (r : Reached) → JustThat r (listing_from n file at rest) (crate_listing n file at rest)
   unfolding listing_from crate_listing walked_from freely_from
-  down-both zero at rest r = λ just. (refl, refl)
-  down-both (suc n) at rest r = by_read n r (leaves file at rest) (read_at file at rest) (down-both n)
+  down_both zero at rest r = λ just. (refl, refl)
+  down_both (suc n) at rest r = by_read n r (leaves file at rest) (read_at file at rest) (down_both n)
 
 -- tables for what is told down the crate's listing
 abbrev pub just_room : List ℕ → Room
@@ -97,7 +97,7 @@ just_room file = record { rows = length (crate_free file).sections; lines = leng
 pub just_held : (file : List ℕ) → length file ≤ 1099511627776 → Tells (crate_free file).sections (crate_free file).lines (walked (just_room file) file)
 unfolding walked listing
 just_held file most =
-    rw (le-ltb 1099511627776 (length file) most) (down-both file (just_room file) (length file + 1) 0 0 (at_start file) (omega arith, omega arith))
+    rw (le-ltb 1099511627776 (length file) most) (down_both file (just_room file) (length file + 1) 0 0 (at_start file) (omega arith, omega arith))
 
 -- and every walk's lines are pinned to its sections
 pub crate_lines_are_pinned : (file : List ℕ) → length file ≤ 1099511627776

@@ -15,7 +15,7 @@ use Rattle.writer.specs.Message.{section_octets, body_octets, message_octets}
 use Rattle.writer.specs.Write.{dest_of, write_of}
 use Rattle.round_trip.specs.ReadBack.{part_of}
 use Rattle.round_trip.specs.Faults.{AtNone, Outside}
-use Rattle.round_trip.proofs.Exactly.{exactly-whole, exactly-19}
+use Rattle.round_trip.proofs.Exactly.{exactly_whole, exactly_19}
 use Rattle.as_the_encoder.specs.Encoder.{reference}
 use Rattle.as_the_encoder.specs.Writes.{flattened, named, WritesAsTheRust, TooSmallAsTheRust, FramesWhateverIsNested, ReferenceLosesReserved}
 use Rattle.as_the_encoder.proofs.EncodingSteps.{usizes}
@@ -71,7 +71,7 @@ frames_whatever_is_nested m plan store dest planned none =
 pub writes_as_the_rust : WritesAsTheRust
 unfolding write_of dest_of
 writes_as_the_rust m plan store dest total planned whole =
-    let g = (exactly-whole m.discipline m.reserved₁ m.reserved₂ plan store dest total).0 whole in
+    let g = (exactly_whole m.discipline m.reserved₁ m.reserved₂ plan store dest total).0 whole in
     let same = g.6 in
     let room = g.4 in
     let small = g.5 in
@@ -81,7 +81,7 @@ writes_as_the_rust m plan store dest total planned whole =
 pub too_small_as_the_rust : TooSmallAsTheRust
 unfolding write_of dest_of
 too_small_as_the_rust m plan store dest planned no_room small =
-    let g = (exactly-19 m.discipline m.reserved₁ m.reserved₂ plan store dest).0 no_room in
+    let g = (exactly_19 m.discipline m.reserved₁ m.reserved₂ plan store dest).0 no_room in
     let total = total_of (parts_of plan) in
     let short : length dest < total = ⊎_elim (λ under. under) (λ over. omega arith) g.4 in (
       frames_whatever_is_nested m plan store dest planned g.2

@@ -135,8 +135,8 @@ module _ (number : ℕ) (payload : List ℕ) (next : Order) (s : Sections) (afte
   numbered k P is same so = rw is (so (rw same after))
 
   -- 2 or 3
-  after-identification : after_identification number ≡ Fits next → Now (Nested AfterIdentification)
-  after-identification = go (eqb number 2) (eqb number 3) (eqb number 4) refl refl
+  after_identification_lem : after_identification number ≡ Fits next → Now (Nested AfterIdentification)
+  after_identification_lem = go (eqb number 2) (eqb number 3) (eqb number 4) refl refl
     where
       go : (t u v : Bool) → eqb number 2 ≡ t → eqb number 3 ≡ u
           → pick t (Fits AfterLocalUse) (pick u (Fits AfterGrid) (pick v NoGrid Misplaced)) ≡ Fits next → Now (Nested AfterIdentification)
@@ -148,8 +148,8 @@ module _ (number : ℕ) (payload : List ℕ) (next : Order) (s : Sections) (afte
       go false false false e f fits = absurd (let z : ◌≡◌ {A = ℕ} 0 1 = cc in omega arith)
 
   -- 2, 3 or 4
-  at-start : at_submessage_start number ≡ Fits next → Now (λ all. (r : Rest) × (all ≡ flat r))
-  at-start = go (eqb number 2) (eqb number 3) (eqb number 4) refl refl refl
+  at_start_lem : at_submessage_start number ≡ Fits next → Now (λ all. (r : Rest) × (all ≡ flat r))
+  at_start_lem = go (eqb number 2) (eqb number 3) (eqb number 4) refl refl refl
     where
       go : (t u v : Bool) → eqb number 2 ≡ t → eqb number 3 ≡ u → eqb number 4 ≡ v
           → pick t (Fits AfterLocalUse) (pick u (Fits AfterGrid) (pick v (Fits AfterProduct) Misplaced)) ≡ Fits next
@@ -167,7 +167,7 @@ module _ (number : ℕ) (payload : List ℕ) (next : Order) (s : Sections) (afte
   unfolding judged
   one_more BetweenMessages fits = tt
   one_more AfterIndicator fits = let o = only_fits number 1 fits in numbered 1 (Nested AfterIndicator) o.0 o.1 λ n. (payload, n.0, ap {B = Sections} (λ more. (1, payload) ∷ more) n.1)
-  one_more AfterIdentification fits = after-identification fits
+  one_more AfterIdentification fits = after_identification_lem fits
   one_more AfterLocalUse fits = let o = only_fits number 3 fits in numbered 3 (Nested AfterLocalUse) o.0 o.1 λ n. a_grid payload n.0 s n.1
   one_more AfterGrid fits =
       let o = only_fits number 4 fits in
@@ -185,8 +185,8 @@ module _ (number : ℕ) (payload : List ℕ) (next : Order) (s : Sections) (afte
     where
       go : (t : Bool) → pick t Closes (at_submessage_start number) ≡ Fits next → Now (Nested AfterData)
       go true fits = absurd (let z : ◌≡◌ {A = ℕ} 0 1 = cc in omega arith)
-      go false fits = at-start fits
-  one_more SubmessageStart fits = at-start fits
+      go false fits = at_start_lem fits
+  one_more SubmessageStart fits = at_start_lem fits
 
 -- nothing more, where an 8 closes
 nothing_more_lem : (order : Order) → judged order 8 ≡ Closes → Nested order []

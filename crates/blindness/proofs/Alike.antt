@@ -24,25 +24,25 @@ use Rattle.blindness.proofs.Reading.{
   zero_starts,
   read_over,
   next_agree,
-  message-agree,
-  starts-agree,
-  indicator-agree,
-  end-agree,
-  header-agree,
-  read-agree,
-  read-equal,
+  message_agree,
+  starts_agree,
+  indicator_agree,
+  end_agree,
+  header_agree,
+  read_agree,
+  read_equal,
 }
 use Rattle.blindness.proofs.Listed.{
   or_neither,
-  carries-below,
-  carries-past,
-  carries-none,
-  values-below,
+  carries_below,
+  carries_past,
+  carries_none,
+  values_below,
   span_past,
   of_messages,
-  messages-later,
-  messages-here,
-  messages-gap,
+  messages_later,
+  messages_here,
+  messages_gap,
 }
 
 not_so : (t : Bool) → (t ≡ true → ⊥) → t ≡ false
@@ -69,32 +69,32 @@ module _ (terms : Terms) (spared : Spared terms) (f g : List ℕ) (same : length
 
     no_value : (k : ℕ) → k < next.at.0 → in_stretch (terms s.number) (k - s.offset.0) ≡ false → is_value terms (s ∷ later) k ≡ false
     unfolding is_value
-    no_value k a b = or_neither (carries-none terms s k b) (values-below f terms n next.at.0 next.rest k a)
+    no_value k a b = or_neither (carries_none terms s k b) (values_below f terms n next.at.0 next.rest k a)
 
     -- whatever the section, its first four octets are read
-    first-four : Still terms s.number 1 4
-    first-four = go told
+    first_four : Still terms s.number 1 4
+    first_four = go told
       where
         go : Reads f at rest (Section s next) → Still terms s.number 1 4
         go (opens G o) = rw o.number spared.word
         go (closes G o) = rw o.number spared.mark
         go (heads G o) = λ i a b. spared.header s.number o.from_1 o.to_7 i a (omega arith)
 
-    no-value-before : (k : ℕ) → k < s.offset.0 + 4 → is_value terms (s ∷ later) k ≡ false
+    no_value_before : (k : ℕ) → k < s.offset.0 + 4 → is_value terms (s ∷ later) k ≡ false
     unfolding is_value
-    no-value-before k a =
+    no_value_before k a =
         let G = goes told in
-        or_neither (go (ltb k s.offset.0) refl) (values-below f terms n next.at.0 next.rest k (omega arith))
+        or_neither (go (ltb k s.offset.0) refl) (values_below f terms n next.at.0 next.rest k (omega arith))
       where
         go : (t : Bool) → ltb k s.offset.0 ≡ t → carries terms s k ≡ false
-        go true e = carries-below terms s k (ltb-true k s.offset.0 e)
+        go true e = carries_below terms s k (ltb-true k s.offset.0 e)
         go false e =
             let b = ltb-false k s.offset.0 e in
-            carries-none terms s k (first-four (k - s.offset.0) (omega arith) (omega arith))
+            carries_none terms s k (first_four (k - s.offset.0) (omega arith) (omega arith))
 
-    no-value-later : (k : ℕ) → next.at.0 ≤ k → is_value terms later k ≡ false → is_value terms (s ∷ later) k ≡ false
+    no_value_later : (k : ℕ) → next.at.0 ≤ k → is_value terms later k ≡ false → is_value terms (s ∷ later) k ≡ false
     unfolding is_value
-    no-value-later k a b = let G = goes told in or_neither (carries-past terms s k (omega arith)) b
+    no_value_later k a b = let G = goes told in or_neither (carries_past terms s k (omega arith)) b
 
   -- the sections that f has are there in g: where its octets that are read stand in g too, and no message starts before it
   module _ (n : ℕ) {at rest : ℕ} {s : Row} {next : Cursor} where
@@ -103,7 +103,7 @@ module _ (terms : Terms) (spared : Spared terms) (f g : List ℕ) (same : length
         → ((k : ℕ) → at ≤ k → k < s.offset.0 → starts_at f k ≡ starts_at g k)
         → read_at f at rest ≡ read_at g at rest
     unfolding message_at
-    read_same (opens G o) h z = read-agree f g same at rest message (λ e. absurd (omega arith)) (λ e. absurd (e o.between))
+    read_same (opens G o) h z = read_agree f g same at rest message (λ e. absurd (omega arith)) (λ e. absurd (e o.between))
       where
         told : Reads f at rest (Section s next)
         told = opens G o
@@ -125,30 +125,30 @@ module _ (terms : Terms) (spared : Spared terms) (f g : List ℕ) (same : length
           where
             go : (t : Bool) → ltb k p ≡ t → starts_at f k ≡ starts_at g k
             go true e = z k a (ltb-true k p e)
-            go false e = let q : k ≡ p = omega (arith, ltb-false k p e) in rw q (starts-agree f g same p word)
+            go false e = let q : k ≡ p = omega (arith, ltb-false k p e) in rw q (starts_agree f g same p word)
 
         message : rest ≡ 0 → message_at f (next_start f at) ≡ message_at g (next_start g at)
         message _ =
-            message-agree f g at (At p) o.found (next_agree f g at (At p) o.found starts) (indicator-agree f g same p total)
+            message_agree f g at (At p) o.found (next_agree f g at (At p) o.found starts) (indicator_agree f g same p total)
     read_same (closes G o) h z =
-        read-agree f g same at rest (λ e. absurd (omega arith))
-        (λ _. end-agree f g same at (λ k a b.
+        read_agree f g same at rest (λ e. absurd (omega arith))
+        (λ _. end_agree f g same at (λ k a b.
         h k (omega arith) (omega arith)
         (no_value n (closes G o) k (omega arith) (rw o.number (spared.mark (k - s.offset.0) (omega arith) (omega arith))))))
         (λ _ e. absurd (e o.last))
     read_same (heads G o) h z =
-        read-agree f g same at rest (λ e. absurd (omega arith)) (λ e. absurd (o.not_last e))
-        (λ _ _. header-agree f g same at rest (λ k a b.
+        read_agree f g same at rest (λ e. absurd (omega arith)) (λ e. absurd (o.not_last e))
+        (λ _ _. header_agree f g same at rest (λ k a b.
         h k (omega arith) (omega arith)
         (no_value n (heads G o) k (omega arith)
         (spared.header s.number o.from_1 o.to_7 (k - s.offset.0) (omega arith) (omega arith)))))
 
   -- files that differ in values octets only are listed alike
-  pub blind-from : (n at rest : ℕ) → ((k : ℕ) → at ≤ k → is_value terms (listing_from n f at rest).sections k ≡ false → Eq f g k)
+  pub blind_from : (n at rest : ℕ) → ((k : ℕ) → at ≤ k → is_value terms (listing_from n f at rest).sections k ≡ false → Eq f g k)
       → listing_from n f at rest ≡ listing_from n g at rest
   unfolding listing_from is_value
-  blind-from zero at rest h = refl
-  blind-from (suc n) at rest h = go (read_at f at rest) refl (reads f at rest) h (blind-from n)
+  blind_from zero at rest h = refl
+  blind_from (suc n) at rest h = go (read_at f at rest) refl (reads f at rest) h (blind_from n)
     where
       go : (read : Read) → read_at f at rest ≡ read → Reads f at rest read
           → ((k : ℕ) → at ≤ k → is_value terms (then n f read).sections k ≡ false → Eq f g k)
@@ -159,21 +159,21 @@ module _ (terms : Terms) (spared : Spared terms) (f g : List ℕ) (same : length
           let G = goes told in
           let r =
           read_same n told (λ k a b. h' k (omega arith))
-          (λ k a b. starts-agree f g same k (λ j c d. h' j (omega arith) (no-value-before n told j (omega arith)))) in
+          (λ k a b. starts_agree f g same k (λ j c d. h' j (omega arith) (no_value_before n told j (omega arith)))) in
           rw (← r, e)
-          (ap (before s) (ih next.at.0 next.rest (λ k a b. h' k (omega arith) (no-value-later n told k a b))))
-      go Over e told h' ih = rw (← read-equal f g same at rest (λ k a. h' k a refl), e)
-      go (Refused fault offset) e told h' ih = rw (← read-equal f g same at rest (λ k a. h' k a refl), e)
+          (ap (before s) (ih next.at.0 next.rest (λ k a b. h' k (omega arith) (no_value_later n told k a b))))
+      go Over e told h' ih = rw (← read_equal f g same at rest (λ k a. h' k a refl), e)
+      go (Refused fault offset) e told h' ih = rw (← read_equal f g same at rest (λ k a. h' k a refl), e)
 
   -- a file with the octets of f's messages that are no values, and zeros between its messages, is listed as f is, if f goes to its end
-  pub copy-from : (n at rest : ℕ) → (listing_from n f at rest).ending ≡ over
+  pub copy_from : (n at rest : ℕ) → (listing_from n f at rest).ending ≡ over
       → ((k : ℕ) → at ≤ k → of_messages f at rest (listing_from n f at rest).sections k ≡ true
       → is_value terms (listing_from n f at rest).sections k ≡ false → Eq f g k)
       → ((k : ℕ) → at ≤ k → of_messages f at rest (listing_from n f at rest).sections k ≡ false → get_or g k 0 ≡ 0)
       → listing_from n f at rest ≡ listing_from n g at rest
   unfolding listing_from is_value in_message of_messages message_at
-  copy-from zero at rest done keep blank = refl
-  copy-from (suc n) at rest done keep blank = go (read_at f at rest) refl (reads f at rest) done keep blank (copy-from n)
+  copy_from zero at rest done keep blank = refl
+  copy_from (suc n) at rest done keep blank = go (read_at f at rest) refl (reads f at rest) done keep blank (copy_from n)
     where
       start_none : (k : ℕ) → at ≤ k → (starts_at f k ≡ true → ⊥) → get_or g k 0 ≡ 0 → starts_at f k ≡ starts_at g k
       start_none k a none z = not_so (starts_at f k) none ∙ sym (zero_starts g k z)
@@ -192,20 +192,20 @@ module _ (terms : Terms) (spared : Spared terms) (f g : List ℕ) (same : length
           let G = goes told in
           let r =
           read_same n told
-          (λ k a b. keep' k (omega arith) (messages-here f told (later n told) k a (omega arith)))
-          (λ k a b. start_none k a (no_start told k a b) (blank' k a (messages-gap f told n k a b))) in
+          (λ k a b. keep' k (omega arith) (messages_here f told (later n told) k a (omega arith)))
+          (λ k a b. start_none k a (no_start told k a b) (blank' k a (messages_gap f told n k a b))) in
           rw (← r, e)
           (ap (before s)
           (ih next.at.0 next.rest done'
-          (λ k a b c. keep' k (omega arith) (messages-later f told (later n told) k a ∙ b) (no-value-later n told k a c))
-          (λ k a b. blank' k (omega arith) (messages-later f told (later n told) k a ∙ b))))
+          (λ k a b c. keep' k (omega arith) (messages_later f told (later n told) k a ∙ b) (no_value_later n told k a c))
+          (λ k a b. blank' k (omega arith) (messages_later f told (later n told) k a ∙ b))))
       go Over e (over_between between none) done' keep' blank' ih =
           let free : (k : ℕ) → at ≤ k → starts_at f k ≡ true → ⊥ = subst (IsNextStart f at) none (next_start_first f at) in
           let zeros : (k : ℕ) → at ≤ k → get_or g k 0 ≡ 0 =
           λ k a. let x : in_span at rest k ≡ false = rw between (span_past at 0 k (omega arith)) in blank' k a (or_neither x refl) in
           let next = next_agree f g at Nowhere none (λ k a _. start_none k a (free k a) (zeros k a)) in
           let r =
-          read-agree f g same at rest (λ _. message-agree f g at Nowhere none next refl) (λ z. absurd (omega arith))
+          read_agree f g same at rest (λ _. message_agree f g at Nowhere none next refl) (λ z. absurd (omega arith))
           (λ z. absurd (z between)) in
           rw (← r, e)
       go Over e (over_within within past) done' keep' blank' ih = rw (read_over g at rest within (omega arith))
@@ -243,13 +243,13 @@ seen_from terms f g (suc n) at rest keep = go (read_at f at rest) (reads f at re
           record {
             same_octet = λ i a b.
                 let k = s.offset.0 + i in
-                keep' k (omega arith) (messages-here f told more k (omega arith) (omega arith))
-                (or_neither (carries-none terms s k (ap (in_stretch (terms s.number)) (own i) ∙ b))
-                (values-below f terms n next.at.0 next.rest k (omega arith)));
+                keep' k (omega arith) (messages_here f told more k (omega arith) (omega arith))
+                (or_neither (carries_none terms s k (ap (in_stretch (terms s.number)) (own i) ∙ b))
+                (values_below f terms n next.at.0 next.rest k (omega arith)));
             sixteen = sized told;
           },
           ih next.at.0 next.rest (λ k a b c.
-              keep' k (omega arith) (messages-later f told more k a ∙ b) (or_neither (carries-past terms s k (omega arith)) c)),
+              keep' k (omega arith) (messages_later f told more k a ∙ b) (or_neither (carries_past terms s k (omega arith)) c)),
         )
     go Over told keep' ih = tt
     go (Refused fault offset) told keep' ih = tt

@@ -52,61 +52,61 @@ module _ (f g : List ℕ) where
   abbrev pub Eq : ℕ → Type 0
   Eq k = get_or f k 0 ≡ get_or g k 0
 
-  pub be-agree : (width at : ℕ) → ((k : ℕ) → at ≤ k → k < at + width → Eq k) → be_at f at width ≡ be_at g at width
+  pub be_agree : (width at : ℕ) → ((k : ℕ) → at ≤ k → k < at + width → Eq k) → be_at f at width ≡ be_at g at width
   unfolding be_at
-  be-agree zero at h = refl
-  be-agree (suc w) at h =
+  be_agree zero at h = refl
+  be_agree (suc w) at h =
       let a = h (at + w) (omega arith) (omega arith) in
-      let b = be-agree w at (λ k p q. h k p (omega arith)) in
+      let b = be_agree w at (λ k p q. h k p (omega arith)) in
       cc
 
-  says-agree : (at a b c d : ℕ) → ((k : ℕ) → at ≤ k → k < at + 4 → Eq k) → says f at a b c d ≡ says g at a b c d
+  says_agree : (at a b c d : ℕ) → ((k : ℕ) → at ≤ k → k < at + 4 → Eq k) → says f at a b c d ≡ says g at a b c d
   unfolding says
-  says-agree at a b c d h =
+  says_agree at a b c d h =
       let o : (i : ℕ) → i < 4 → Eq (at + i) = λ i small. h (at + i) (omega arith) (omega arith) in
       rw (h at (omega arith) (omega arith), o 1 (omega arith), o 2 (omega arith), o 3 (omega arith))
 
   -- where the search ends in f it ends in g, if messages start alike up to there
-  next-alike : (at : ℕ) (found : Found) → IsNextStart f at found → ((k : ℕ) → at ≤ k → UpTo found k → starts_at f k ≡ starts_at g k)
+  next_alike : (at : ℕ) (found : Found) → IsNextStart f at found → ((k : ℕ) → at ≤ k → UpTo found k → starts_at f k ≡ starts_at g k)
       → IsNextStart g at found
-  next-alike at (At p) (from, there, none) h =
+  next_alike at (At p) (from, there, none) h =
       (from, sym (h p from (le_refl p)) ∙ there, λ k below from' there'. none k below from' (h k from' (omega arith) ∙ there'))
-  next-alike at Nowhere none h = λ k from there. none k from (h k from tt ∙ there)
+  next_alike at Nowhere none h = λ k from there. none k from (h k from tt ∙ there)
 
   pub next_agree : (at : ℕ) (found : Found) → next_start f at ≡ found → ((k : ℕ) → at ≤ k → UpTo found k → starts_at f k ≡ starts_at g k)
       → next_start g at ≡ found
   next_agree at found e h =
-      sym (next_start_is g at found (next-alike at found (subst (IsNextStart f at) e (next_start_first f at)) h))
+      sym (next_start_is g at found (next_alike at found (subst (IsNextStart f at) e (next_start_first f at)) h))
 
   -- a message that starts at one place in both
-  pub message-agree : (at : ℕ) (found : Found) → next_start f at ≡ found → next_start g at ≡ found → message_at f found ≡ message_at g found
+  pub message_agree : (at : ℕ) (found : Found) → next_start f at ≡ found → next_start g at ≡ found → message_at f found ≡ message_at g found
       → message_at f (next_start f at) ≡ message_at g (next_start g at)
-  message-agree at found e e' h = rw (e, e') h
+  message_agree at found e e' h = rw (e, e') h
 
   module _ (same : length f ≡ length g) where
-    pub starts-agree : (p : ℕ) → ((k : ℕ) → p ≤ k → k < p + 4 → Eq k) → starts_at f p ≡ starts_at g p
+    pub starts_agree : (p : ℕ) → ((k : ℕ) → p ≤ k → k < p + 4 → Eq k) → starts_at f p ≡ starts_at g p
     unfolding starts_at
-    starts-agree p h = rw (same, says-agree p 71 82 73 66 h)
+    starts_agree p h = rw (same, says_agree p 71 82 73 66 h)
 
-    pub indicator-agree : (p : ℕ) → ((k : ℕ) → p + 7 ≤ k → k < p + 16 → Eq k) → indicator_at f p ≡ indicator_at g p
+    pub indicator_agree : (p : ℕ) → ((k : ℕ) → p + 7 ≤ k → k < p + 16 → Eq k) → indicator_at f p ≡ indicator_at g p
     unfolding indicator_at
-    indicator-agree p h =
-        rw (h (p + 7) (omega arith) (omega arith), be-agree 8 (p + 8) (λ k a b. h k (omega arith) (omega arith)))
+    indicator_agree p h =
+        rw (h (p + 7) (omega arith) (omega arith), be_agree 8 (p + 8) (λ k a b. h k (omega arith) (omega arith)))
 
-    pub end-agree : (at : ℕ) → ((k : ℕ) → at ≤ k → k < at + 4 → Eq k) → end_at f at ≡ end_at g at
+    pub end_agree : (at : ℕ) → ((k : ℕ) → at ≤ k → k < at + 4 → Eq k) → end_at f at ≡ end_at g at
     unfolding end_at
-    end-agree at h = rw (same, says-agree at 55 55 55 55 h)
+    end_agree at h = rw (same, says_agree at 55 55 55 55 h)
 
-    pub header-agree : (at rest : ℕ) → ((k : ℕ) → at ≤ k → k < at + 5 → Eq k) → header_at f at rest ≡ header_at g at rest
+    pub header_agree : (at rest : ℕ) → ((k : ℕ) → at ≤ k → k < at + 5 → Eq k) → header_at f at rest ≡ header_at g at rest
     unfolding header_at
-    header-agree at rest h = rw (same, h (at + 4) (omega arith) (omega arith), be-agree 4 at (λ k a b. h k a (omega arith)))
+    header_agree at rest h = rw (same, h (at + 4) (omega arith) (omega arith), be_agree 4 at (λ k a b. h k a (omega arith)))
 
     -- one read, by what stands there
-    pub read-agree : (at rest : ℕ) → (rest ≡ 0 → message_at f (next_start f at) ≡ message_at g (next_start g at))
+    pub read_agree : (at rest : ℕ) → (rest ≡ 0 → message_at f (next_start f at) ≡ message_at g (next_start g at))
         → (rest ≡ 4 → end_at f at ≡ end_at g at) → ((rest ≡ 0 → ⊥) → (rest ≡ 4 → ⊥) → header_at f at rest ≡ header_at g at rest)
         → read_at f at rest ≡ read_at g at rest
     unfolding read_at
-    read-agree at rest a b c =
+    read_agree at rest a b c =
         rw (← same)
         (same_pick (eqb rest 0) (λ e. a (eqb-true rest 0 e)) λ e.
         same_pick (leb (length f) at) (λ _. refl) λ _.
@@ -114,16 +114,16 @@ module _ (f g : List ℕ) where
         c (eqb-false rest 0 e) (eqb-false rest 4 e'))
 
     -- all octets from there on are equal
-    pub read-equal : (at rest : ℕ) → ((k : ℕ) → at ≤ k → Eq k) → read_at f at rest ≡ read_at g at rest
+    pub read_equal : (at rest : ℕ) → ((k : ℕ) → at ≤ k → Eq k) → read_at f at rest ≡ read_at g at rest
     unfolding message_at
-    read-equal at rest h =
-        read-agree at rest
-        (λ _. message-agree at (next_start f at) refl
-        (next_agree at (next_start f at) refl (λ k a b. starts-agree k (λ j c d. h j (omega arith))))
+    read_equal at rest h =
+        read_agree at rest
+        (λ _. message_agree at (next_start f at) refl
+        (next_agree at (next_start f at) refl (λ k a b. starts_agree k (λ j c d. h j (omega arith))))
         (message (next_start f at) (next_start_first f at)))
-        (λ _. end-agree at (λ k a b. h k a))
-        (λ _ _. header-agree at rest (λ k a b. h k a))
+        (λ _. end_agree at (λ k a b. h k a))
+        (λ _ _. header_agree at rest (λ k a b. h k a))
       where
         message : (found : Found) → IsNextStart f at found → message_at f found ≡ message_at g found
-        message (At p) (from, there, none) = indicator-agree p (λ k a b. h k (omega arith))
+        message (At p) (from, there, none) = indicator_agree p (λ k a b. h k (omega arith))
         message Nowhere none = refl

@@ -41,36 +41,36 @@ differ_only p i (x ∷ xs) [] = false
 differ_only p i (x ∷ xs) (y ∷ ys) = (p i || eqb x y) && differ_only p (i + 1) xs ys
 
 module _ (p : ℕ → Bool) where
-  differ-length : (i : ℕ) (f g : List ℕ) → differ_only p i f g ≡ true → length f ≡ length g
+  differ_length : (i : ℕ) (f g : List ℕ) → differ_only p i f g ≡ true → length f ≡ length g
   unfolding differ_only
-  differ-length i [] [] e = refl
-  differ-length i [] (y ∷ ys) e = absurd (false≢true e)
-  differ-length i (x ∷ xs) [] e = absurd (false≢true e)
-  differ-length i (x ∷ xs) (y ∷ ys) e =
-      ap suc (differ-length (i + 1) xs ys (and_both (p i || eqb x y) (differ_only p (i + 1) xs ys) e).1)
+  differ_length i [] [] e = refl
+  differ_length i [] (y ∷ ys) e = absurd (false≢true e)
+  differ_length i (x ∷ xs) [] e = absurd (false≢true e)
+  differ_length i (x ∷ xs) (y ∷ ys) e =
+      ap suc (differ_length (i + 1) xs ys (and_both (p i || eqb x y) (differ_only p (i + 1) xs ys) e).1)
 
-  differ-octet : (i : ℕ) (f g : List ℕ) → differ_only p i f g ≡ true → (k : ℕ) → p (i + k) ≡ false → get_or f k 0 ≡ get_or g k 0
+  differ_octet : (i : ℕ) (f g : List ℕ) → differ_only p i f g ≡ true → (k : ℕ) → p (i + k) ≡ false → get_or f k 0 ≡ get_or g k 0
   unfolding differ_only
-  differ-octet i [] [] e k h = refl
-  differ-octet i [] (y ∷ ys) e k h = absurd (false≢true e)
-  differ-octet i (x ∷ xs) [] e k h = absurd (false≢true e)
-  differ-octet i (x ∷ xs) (y ∷ ys) e zero h =
+  differ_octet i [] [] e k h = refl
+  differ_octet i [] (y ∷ ys) e k h = absurd (false≢true e)
+  differ_octet i (x ∷ xs) [] e k h = absurd (false≢true e)
+  differ_octet i (x ∷ xs) (y ∷ ys) e zero h =
       let a = (and_both (p i || eqb x y) (differ_only p (i + 1) xs ys) e).0 in
       let b : p i ≡ false = ap p (sym (add-zero i)) ∙ h in
       eqb-true x y (rw b at a)
-  differ-octet i (x ∷ xs) (y ∷ ys) e (suc k) h =
+  differ_octet i (x ∷ xs) (y ∷ ys) e (suc k) h =
       let a = (and_both (p i || eqb x y) (differ_only p (i + 1) xs ys) e).1 in
       let b : i + 1 + k ≡ i + suc k = omega arith in
-      differ-octet (i + 1) xs ys a k (ap p b ∙ h)
+      differ_octet (i + 1) xs ys a k (ap p b ∙ h)
 
 -- the test, of values octets
 pub agree_of : (terms : Terms) (f g : List ℕ) → differ_only (is_value terms (walked unlimited f).sections) 0 f g ≡ true
     → Agree terms (walked unlimited f).sections f g
 agree_of terms f g e =
     record {
-      one_length = differ-length (is_value terms (walked unlimited f).sections) 0 f g e;
+      one_length = differ_length (is_value terms (walked unlimited f).sections) 0 f g e;
       one_octet = λ k _ h.
-          differ-octet (is_value terms (walked unlimited f).sections) 0 f g e k
+          differ_octet (is_value terms (walked unlimited f).sections) 0 f g e k
           (ap (is_value terms (walked unlimited f).sections) (zero-add k) ∙ h);
     }
 

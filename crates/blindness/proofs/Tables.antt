@@ -60,21 +60,21 @@ weaken sections lines lines' (stops told why) j' le free = tt
 weaken sections lines lines' (passes told closed r) j' le free = (free.0, free.1, omega (arith, free.2))
 
 module _ (room : Room) (s : Row) where
-  free-order : (r : Reached) (told : List Line) (j : Judged) → r.sections < unlimited.rows → r.lines < unlimited.lines
+  free_order : (r : Reached) (told : List Line) (j : Judged) → r.sections < unlimited.rows → r.lines < unlimited.lines
       → Freed (r.sections + 1) (r.lines + 1) (by_order j room r s told) (by_order j unlimited r s told)
   unfolding by_order fitted closing
-  free-order r told (Fits order) a b =
+  free_order r told (Fits order) a b =
       by_test (λ (j : Judgement). Freed (r.sections + 1) (r.lines + 1) j (fitted unlimited r s told order))
       (leb room.rows r.sections) (λ _. tt) (λ _. (rw (lt-leb unlimited.rows r.sections a), omega arith, omega arith))
-  free-order r told Closes a b =
+  free_order r told Closes a b =
       by_test P (leb room.rows r.sections) (λ _. tt) λ _.
       by_test P (leb room.lines r.lines) (λ _. tt) λ _.
       (rw (lt-leb unlimited.rows r.sections a, lt-leb unlimited.lines r.lines b), omega arith, omega arith)
     where
       P : Judgement → Type 0
       P j = Freed (r.sections + 1) (r.lines + 1) j (closing unlimited r s)
-  free-order r told Misplaced a b = tt
-  free-order r told NoGrid a b = tt
+  free_order r told Misplaced a b = tt
+  free_order r told NoGrid a b = tt
 
   free : (r : Reached) → r.sections < unlimited.rows → r.lines + 1 < unlimited.lines
       → Freed (r.sections + 1) (r.lines + 2) (judgement room r s) (judgement unlimited r s)
@@ -84,10 +84,10 @@ module _ (room : Room) (s : Row) where
       (λ _. by_test (λ (j : Judgement). Freed (r.sections + 1) (r.lines + 2) j more) (leb room.lines r.lines) (λ _. tt)
       (λ _. rw (lt-leb unlimited.lines r.lines (omega arith))
       (weaken (r.sections + 1) (r.lines + 1 + 1) (r.lines + 2) here there (omega arith)
-      (free-order (gone_on r) line (judged SubmessageStart s.number) a b))))
+      (free_order (gone_on r) line (judged SubmessageStart s.number) a b))))
       (λ _. weaken (r.sections + 1) (r.lines + 1) (r.lines + 2) (by_order (judged r.order s.number) room r s [])
       (by_order (judged r.order s.number) unlimited r s []) (omega arith)
-      (free-order r [] (judged r.order s.number) a (omega arith)))
+      (free_order r [] (judged r.order s.number) a (omega arith)))
     where
       line : List Line
       line = line_of r.force GoesOn ∷ []
@@ -102,14 +102,14 @@ module _ (room : Room) (s : Row) where
       more = pick (leb unlimited.lines r.lines) (stops [] refusal.SubmessageTableFull) there
 
 module _ (room : Room) where
-  free-from : (r : Reached) (sections : List Row) (ending : Ending) → r.sections + length sections < unlimited.rows
+  free_from : (r : Reached) (sections : List Row) (ending : Ending) → r.sections + length sections < unlimited.rows
       → r.lines + 2 * length sections < unlimited.lines → (walked_from room r sections ending).outcome ≡ Clean
       → walked_from room r sections ending ≡ walked_from unlimited r sections ending
   unfolding walked_from
-  free-from r [] ending a b h = refl
-  free-from r (s ∷ more) ending a b h =
+  free_from r [] ending a b h = refl
+  free_from r (s ∷ more) ending a b h =
       go (judgement room r s) (judgement unlimited r s) (free room s r (omega arith) (omega arith)) h
-      (λ reached. free-from reached more ending)
+      (λ reached. free_from reached more ending)
     where
       go : (j j' : Judgement) → Freed (r.sections + 1) (r.lines + 2) j j'
           → (followed r s j (λ reached. walked_from room reached more ending)).outcome ≡ Clean
@@ -144,4 +144,4 @@ clean_needs_no_more room f =
     by_both (λ (a b : Told). a.outcome ≡ Clean → a ≡ b) (ltb 1099511627776 (length f)) (λ _ h. refl) λ e.
     let small = ltb-false 1099511627776 (length f) e in
     let count = few f in
-    free-from room (at_start f) (listing f).sections (listing f).ending (omega arith) (omega arith)
+    free_from room (at_start f) (listing f).sections (listing f).ending (omega arith) (omega arith)

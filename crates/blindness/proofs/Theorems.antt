@@ -31,10 +31,10 @@ use Rattle.blindness.specs.Blindness.{One, Public, Blindness, LentBlindness, Pub
 use Rattle.blindness.proofs.Spared.{Each, Spared, spared, and_left, and_right}
 use Rattle.blindness.proofs.Reading.{same_pick, every_octet, Eq}
 use Rattle.blindness.proofs.Listed.{span_past, of_messages}
-use Rattle.blindness.proofs.Alike.{blind-from, copy-from, Seen, seen_from}
-use Rattle.blindness.proofs.Fields.{spans-same, decoded-same, messages-same}
-use Rattle.blindness.proofs.Walks.{fewer, fewer-values, clean-walk, walked_same}
-use Rattle.blindness.proofs.Copies.{length-copy, octet-copy, copy-keeps, copy-zeros, copy-blanks}
+use Rattle.blindness.proofs.Alike.{blind_from, copy_from, Seen, seen_from}
+use Rattle.blindness.proofs.Fields.{spans_same, decoded_same, messages_same}
+use Rattle.blindness.proofs.Walks.{fewer, fewer_values, clean_walk, walked_same}
+use Rattle.blindness.proofs.Copies.{length_copy, octet_copy, copy_keeps, copy_zeros, copy_blanks}
 
 -- neither a values octet stays, nor one outside every message
 value_goes : (terms : Terms) (f : List ℕ) (k : ℕ) → is_value terms (walked unlimited f).sections k ≡ true
@@ -72,8 +72,8 @@ decoding_same : (terms : Terms) → Spared terms → (f g : List ℕ) → length
     → Each (Seen terms f g) (listing f).sections → (room : Room)
     → decoded f (walked room f).sections ≡ decoded g (walked room g).sections
 decoding_same terms s f g same e seen room =
-    rw (← walked_same room f g same e (spans-same terms s f g same (listing f).sections seen))
-    (decoded-same terms s f g same (walked room f).sections (fewer (Seen terms f g) room f seen))
+    rw (← walked_same room f g same e (spans_same terms s f g same (listing f).sections seen))
+    (decoded_same terms s f g same (walked room f).sections (fewer (Seen terms f g) room f seen))
 
 module _ (terms : Terms) (passed : is_blind terms ≡ true) where
   -- two files that differ at most in values octets of the sections that a walk of the first lists, with whatever room
@@ -82,50 +82,50 @@ module _ (terms : Terms) (passed : is_blind terms ≡ true) where
     same = a.one_length
 
     agrees : (k : ℕ) → is_value terms (listing f).sections k ≡ false → Eq f g k
-    agrees k h = every_octet f g same k (λ b. a.one_octet k b (fewer-values terms k room f h))
+    agrees k h = every_octet f g same k (λ b. a.one_octet k b (fewer_values terms k room f h))
 
-    same-listing : listing f ≡ listing g
+    same_listing : listing f ≡ listing g
     unfolding listing
-    same-listing = rw (← same) (blind-from terms (spared terms passed) f g same (length f + 1) 0 0 (λ k _ h. agrees k h))
+    same_listing = rw (← same) (blind_from terms (spared terms passed) f g same (length f + 1) 0 0 (λ k _ h. agrees k h))
 
     seen : Each (Seen terms f g) (listing f).sections
     unfolding listing
     seen = seen_from terms f g (length f + 1) 0 0 (λ k _ _ h. agrees k h)
 
     one_walk : (room : Room) → walked room f ≡ walked room g
-    one_walk room = walked_same room f g same same-listing (spans-same terms (spared terms passed) f g same (listing f).sections seen)
+    one_walk room = walked_same room f g same same_listing (spans_same terms (spared terms passed) f g same (listing f).sections seen)
 
-    same-stays : (k : ℕ) → stays terms g (walked unlimited g).sections k ≡ stays terms f (walked unlimited f).sections k
+    same_stays : (k : ℕ) → stays terms g (walked unlimited g).sections k ≡ stays terms f (walked unlimited f).sections k
     unfolding stays
-    same-stays k =
+    same_stays k =
         let listed = fewer (Seen terms f g) unlimited f seen in
-        let m = messages-same terms (spared terms passed) f g same (walked unlimited f).sections listed k in
+        let m = messages_same terms (spared terms passed) f g same (walked unlimited f).sections listed k in
         rw (← one_walk unlimited, m)
 
     same_copy : (walked unlimited f).outcome ≡ Clean → public_copy terms f ≡ public_copy terms g
     unfolding stays
     same_copy clean =
-        ext_get_or 0 (public_copy terms f) (public_copy terms g) (length-copy terms f ∙ same ∙ sym (length-copy terms g)) (λ k _. octet k)
+        ext_get_or 0 (public_copy terms f) (public_copy terms g) (length_copy terms f ∙ same ∙ sym (length_copy terms g)) (λ k _. octet k)
       where
         no_value : (k : ℕ) → stays terms f (walked unlimited f).sections k ≡ true → is_value terms (listing f).sections k ≡ false
         no_value k h =
             let p = and_both (in_message f (walked unlimited f).sections k) (not (is_value terms (walked unlimited f).sections k)) h in
-            rw (← (clean-walk unlimited f clean).0) (not-true (is_value terms (walked unlimited f).sections k) p.1)
+            rw (← (clean_walk unlimited f clean).0) (not-true (is_value terms (walked unlimited f).sections k) p.1)
 
         octet : (k : ℕ) → get_or (public_copy terms f) k 0 ≡ get_or (public_copy terms g) k 0
         octet k =
-            octet-copy terms f k
+            octet_copy terms f k
             ∙ same_pick (stays terms f (walked unlimited f).sections k) (λ h. agrees k (no_value k h)) (λ _. refl)
-            ∙ sym (octet-copy terms g k ∙ ap (λ (t : Bool). pick t (get_or g k 0) 0) (same-stays k))
+            ∙ sym (octet_copy terms g k ∙ ap (λ (t : Bool). pick t (get_or g k 0) 0) (same_stays k))
 
     same_outcome : (dest : List ℕ) (o : Outcome) → (walked unlimited f).outcome ≡ o → by_outcome o terms f dest ≡ by_outcome o terms g dest
     unfolding by_outcome
     same_outcome dest Clean e = rw (same, same_copy e)
     same_outcome dest (Refused why place offset) e = refl
 
-    same-call : (dest : List ℕ) → copy_of terms f dest ≡ copy_of terms g dest
+    same_call : (dest : List ℕ) → copy_of terms f dest ≡ copy_of terms g dest
     unfolding copy_of
-    same-call dest =
+    same_call dest =
         rw (← same, ← one_walk unlimited) (
         same_pick (ltb 1099511627776 (length f)) (λ _. refl) λ _.
         same_pick (ltb (length dest) (length f)) (λ _. refl) λ _.
@@ -134,14 +134,14 @@ module _ (terms : Terms) (passed : is_blind terms ≡ true) where
     one : One terms f g
     one =
         record {
-          one_listing = same-listing;
+          one_listing = same_listing;
           one_walk = one_walk;
           one_tables = λ rows lines. tables_same f g rows lines (one_walk (room_of (length rows) (length lines)));
-          one_decoding = decoding_same terms (spared terms passed) f g same same-listing seen;
+          one_decoding = decoding_same terms (spared terms passed) f g same same_listing seen;
           one_inventory = inventory_same f g (one_walk unlimited)
-              (decoding_same terms (spared terms passed) f g same same-listing seen unlimited);
+              (decoding_same terms (spared terms passed) f g same same_listing seen unlimited);
           one_copy = same_copy;
-          one_call = same-call;
+          one_call = same_call;
         }
 
   -- a file that walks clean, and its copy
@@ -155,20 +155,20 @@ module _ (terms : Terms) (passed : is_blind terms ≡ true) where
 
     keeps : (k : ℕ) → of_messages f 0 0 (listing f).sections k ≡ true → is_value terms (listing f).sections k ≡ false → Eq f copy k
     keeps k a b =
-        let e = (clean-walk unlimited f clean).0 in
+        let e = (clean_walk unlimited f clean).0 in
         let m : in_message f (walked unlimited f).sections k ≡ true = rw e (sym (from_start (listing f).sections k) ∙ a) in
-        sym (copy-keeps terms f k m (rw e b))
+        sym (copy_keeps terms f k m (rw e b))
 
     blanks : (k : ℕ) → of_messages f 0 0 (listing f).sections k ≡ false → get_or copy k 0 ≡ 0
     blanks k a =
-        let e = (clean-walk unlimited f clean).0 in
-        copy-blanks terms f k (rw e (sym (from_start (listing f).sections k) ∙ a))
+        let e = (clean_walk unlimited f clean).0 in
+        copy_blanks terms f k (rw e (sym (from_start (listing f).sections k) ∙ a))
 
-    copy-listed : listing f ≡ listing copy
+    copy_listed : listing f ≡ listing copy
     unfolding listing
-    copy-listed =
-        rw (length-copy terms f)
-        (copy-from terms (spared terms passed) f copy (sym (length-copy terms f)) (length f + 1) 0 0 (clean-walk unlimited f clean).1
+    copy_listed =
+        rw (length_copy terms f)
+        (copy_from terms (spared terms passed) f copy (sym (length_copy terms f)) (length f + 1) 0 0 (clean_walk unlimited f clean).1
         (λ k _. keeps k) (λ k _. blanks k))
 
     copy_seen : Each (Seen terms f copy) (listing f).sections
@@ -178,25 +178,25 @@ module _ (terms : Terms) (passed : is_blind terms ≡ true) where
     copy_walks : (room : Room) → walked room copy ≡ walked room f
     copy_walks room =
         sym
-        (walked_same room f copy (sym (length-copy terms f)) copy-listed
-        (spans-same terms (spared terms passed) f copy (sym (length-copy terms f)) (listing f).sections copy_seen))
+        (walked_same room f copy (sym (length_copy terms f)) copy_listed
+        (spans_same terms (spared terms passed) f copy (sym (length_copy terms f)) (listing f).sections copy_seen))
 
-    copy-decodes : (room : Room) → decoded copy (walked room copy).sections ≡ decoded f (walked room f).sections
-    copy-decodes room =
-        sym (decoding_same terms (spared terms passed) f copy (sym (length-copy terms f)) copy-listed copy_seen room)
+    copy_decodes : (room : Room) → decoded copy (walked room copy).sections ≡ decoded f (walked room f).sections
+    copy_decodes room =
+        sym (decoding_same terms (spared terms passed) f copy (sym (length_copy terms f)) copy_listed copy_seen room)
 
     public : Public terms f copy
     public =
         record {
-          copy_length = length-copy terms f;
-          copy_listing = sym copy-listed;
+          copy_length = length_copy terms f;
+          copy_listing = sym copy_listed;
           copy_walk = copy_walks;
           copy_tables = λ rows lines. tables_same copy f rows lines (copy_walks (room_of (length rows) (length lines)));
-          copy_decoding = copy-decodes;
-          copy_inventory = inventory_same copy f (copy_walks unlimited) (copy-decodes unlimited);
-          copy_octet = λ k _. copy-keeps terms f k;
-          copy_no_value = λ k h. copy-zeros terms f k (value_goes terms f k h);
-          copy_outside = λ k h. copy-zeros terms f k (outside_goes terms f k h);
+          copy_decoding = copy_decodes;
+          copy_inventory = inventory_same copy f (copy_walks unlimited) (copy_decodes unlimited);
+          copy_octet = λ k _. copy_keeps terms f k;
+          copy_no_value = λ k h. copy_zeros terms f k (value_goes terms f k h);
+          copy_outside = λ k h. copy_zeros terms f k (outside_goes terms f k h);
         }
 
 pub blindness : Blindness

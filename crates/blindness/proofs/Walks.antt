@@ -58,11 +58,11 @@ is_clean e = subst IsClean (sym e) tt
 
 -- what holds of all sections of a list holds of all that a walk down it lists
 module _ (P : Section → Type 0) (room : Room) where
-  fewer-from : (r : Reached) (sections : List Section) (ending : Ending) → Each P sections
+  fewer_from : (r : Reached) (sections : List Section) (ending : Ending) → Each P sections
       → Each P (walked_from room r sections ending).sections
   unfolding walked_from
-  fewer-from r [] ending each = tt
-  fewer-from r (s ∷ more) ending each = go (judgement room r s) (λ reached. fewer-from reached more ending each.1)
+  fewer_from r [] ending each = tt
+  fewer_from r (s ∷ more) ending each = go (judgement room r s) (λ reached. fewer_from reached more ending each.1)
     where
       go : (j : Judgement) → ((reached : Reached) → Each P (walked_from room reached more ending).sections)
           → Each P (followed r s j (λ reached. walked_from room reached more ending)).sections
@@ -73,24 +73,24 @@ module _ (P : Section → Type 0) (room : Room) where
   unfolding walked
   fewer f each =
       by_test (λ (told : Told). Each P told.sections) (ltb 1099511627776 (length f)) (λ _. tt)
-      (λ _. fewer-from (at_start f) (listing f).sections (listing f).ending each)
+      (λ _. fewer_from (at_start f) (listing f).sections (listing f).ending each)
 
 -- a values octet of what a walk lists is one of what is listed
 module _ (terms : Terms) (k : ℕ) where
-  to-each : (sections : List Section) → is_value terms sections k ≡ false → Each (λ s. carries terms s k ≡ false) sections
+  to_each : (sections : List Section) → is_value terms sections k ≡ false → Each (λ s. carries terms s k ≡ false) sections
   unfolding is_value
-  to-each [] h = tt
-  to-each (s ∷ more) h = let p = or_neither (carries terms s k) (is_value terms more k) h in (p.0, to-each more p.1)
+  to_each [] h = tt
+  to_each (s ∷ more) h = let p = or_neither (carries terms s k) (is_value terms more k) h in (p.0, to_each more p.1)
 
-  of-each : (sections : List Section) → Each (λ s. carries terms s k ≡ false) sections → is_value terms sections k ≡ false
+  of_each : (sections : List Section) → Each (λ s. carries terms s k ≡ false) sections → is_value terms sections k ≡ false
   unfolding is_value
-  of-each [] each = refl
-  of-each (s ∷ more) each = or-none each.0 (of-each more each.1)
+  of_each [] each = refl
+  of_each (s ∷ more) each = or-none each.0 (of_each more each.1)
 
-  pub fewer-values : (room : Room) (f : List ℕ) → is_value terms (listing f).sections k ≡ false
+  pub fewer_values : (room : Room) (f : List ℕ) → is_value terms (listing f).sections k ≡ false
       → is_value terms (walked room f).sections k ≡ false
-  fewer-values room f h =
-      of-each (walked room f).sections (fewer (λ s. carries terms s k ≡ false) room f (to-each (listing f).sections h))
+  fewer_values room f h =
+      of_each (walked room f).sections (fewer (λ s. carries terms s k ≡ false) room f (to_each (listing f).sections h))
 
 -- a clean walk lists all, and the input is over behind it
 module _ (room : Room) where
@@ -108,10 +108,10 @@ module _ (room : Room) where
       go (stops lines why) h' ih = absurd (is_clean h')
       go (passes lines closed reached) h' ih = let p = ih reached h' in (ap (λ (m : List Section). s ∷ m) p.0, p.1)
 
-  pub clean-walk : (f : List ℕ) → (walked room f).outcome ≡ Clean
+  pub clean_walk : (f : List ℕ) → (walked room f).outcome ≡ Clean
       → ((walked room f).sections ≡ (listing f).sections) × ((listing f).ending ≡ over)
   unfolding walked
-  clean-walk f =
+  clean_walk f =
       by_test (λ (told : Told). told.outcome ≡ Clean → (told.sections ≡ (listing f).sections) × ((listing f).ending ≡ over))
       (ltb 1099511627776 (length f)) (λ _ h. absurd (is_clean h))
       (λ _. all_from (at_start f) (listing f).sections (listing f).ending)
@@ -135,10 +135,10 @@ module _ (room : Room) (f : List ℕ) where
     abbrev Same : Judgement → Judgement → Type 0
     Same j k = j ≡ moved g k
 
-    fitted-same : (r : Reached) (lines : List Line) (order : Order)
+    fitted_same : (r : Reached) (lines : List Line) (order : Order)
         → Same (fitted room (with_file r g) s lines order) (fitted room (with_file r f) s lines order)
     unfolding fitted
-    fitted-same r lines order =
+    fitted_same r lines order =
         by_test_2 Same (leb room.rows r.sections) (λ full. refl) λ free.
         ap
         (λ (x : Span).
@@ -159,22 +159,22 @@ module _ (room : Room) (f : List ℕ) where
         by_test_2 Same (leb room.rows r.sections) (λ full. refl) λ free.
         by_test_2 Same (leb room.lines r.lines) (λ full. refl) (λ line. refl)
 
-    by-order-same : (j : Judged) (r : Reached) (lines : List Line)
+    by_order_same : (j : Judged) (r : Reached) (lines : List Line)
         → Same (by_order j room (with_file r g) s lines) (by_order j room (with_file r f) s lines)
     unfolding by_order
-    by-order-same (says.Fits order) r lines = fitted-same r lines order
-    by-order-same says.Closes r lines = closing_same r
-    by-order-same says.Misplaced r lines = refl
-    by-order-same says.NoGrid r lines = refl
+    by_order_same (says.Fits order) r lines = fitted_same r lines order
+    by_order_same says.Closes r lines = closing_same r
+    by_order_same says.Misplaced r lines = refl
+    by_order_same says.NoGrid r lines = refl
 
-    judgement-same : (r : Reached) → Same (judgement room (with_file r g) s) (judgement room (with_file r f) s)
+    judgement_same : (r : Reached) → Same (judgement room (with_file r g) s) (judgement room (with_file r f) s)
     unfolding judgement
-    judgement-same r =
+    judgement_same r =
         by_test_2 Same (completes r.order s.number)
         (λ on.
         by_test_2 Same (leb room.lines r.lines) (λ full. refl) λ free.
-        by-order-same (judged SubmessageStart s.number) (gone_on r) (line_of r.force GoesOn ∷ []))
-        λ off. by-order-same (judged r.order s.number) r []
+        by_order_same (judged SubmessageStart s.number) (gone_on r) (line_of r.force GoesOn ∷ []))
+        λ off. by_order_same (judged r.order s.number) r []
 
   same_from : (g : List ℕ) (sections : List Section) (ending : Ending) → Each (SameSpan f g) sections → (r : Reached)
       → walked_from room (with_file r f) sections ending ≡ walked_from room (with_file r g) sections ending
@@ -182,9 +182,9 @@ module _ (room : Room) (f : List ℕ) where
   same_from g [] over each r = refl
   same_from g [] (unreadable fault offset) each r = refl
   same_from g (s ∷ more) ending each r =
-      ap (λ j. followed (with_file r f) s j (λ reached. walked_from room reached more ending)) (judgement-same s f (λ before. refl) r)
+      ap (λ j. followed (with_file r f) s j (λ reached. walked_from room reached more ending)) (judgement_same s f (λ before. refl) r)
       ∙ go (judgement room (with_file r f) s) (same_from g more ending each.1)
-      ∙ ap (λ j. followed (with_file r g) s j (λ reached. walked_from room reached more ending)) (sym (judgement-same s g each.0 r))
+      ∙ ap (λ j. followed (with_file r g) s j (λ reached. walked_from room reached more ending)) (sym (judgement_same s g each.0 r))
     where
       go : (j : Judgement) → ((q : Reached) → walked_from room (with_file q f) more ending ≡ walked_from room (with_file q g) more ending)
           → followed (with_file r f) s (moved f j) (λ reached. walked_from room reached more ending)

@@ -49,7 +49,7 @@ unfolding entry_line nine_fields
 is_piecewise e = simp append_assoc
 
 module _ (e : Entry) {a₁ a₂ a₃ a₄ a₅ a₆ a₇ a₈ : ℕ} {d₁ d₂ d₃ d₄ d₅ d₆ d₇ d₈ : List ℕ} where
-  pub put-in-turn : PutBefore 97 (colon ∷ octet_text e.surface) (set (zeros 98) 97 10) a₁ d₁
+  pub put_in_turn : PutBefore 97 (colon ∷ octet_text e.surface) (set (zeros 98) 97 10) a₁ d₁
       → PutBefore a₁ ((colon ∷ unit_text e.time) ++ (colon ∷ time_text e.time)) d₁ a₂ d₂
       → PutBefore a₂ (colon ∷ octet_text e.number) d₂ a₃ d₃
       → PutBefore a₃ (colon ∷ octet_text e.category) d₃ a₄ d₄
@@ -59,7 +59,7 @@ module _ (e : Entry) {a₁ a₂ a₃ a₄ a₅ a₆ a₇ a₈ : ℕ} {d₁ d₂ 
       → PutBefore a₇ (decimal e.message) d₇ a₈ d₈
       → ◌≡◌ {A = Spelled} (record { octets = d₈; start = a₈ }) (spelled_of e)
   unfolding spelled_of
-  put-in-turn surface time number category discipline offset submessage message =
+  put_in_turn surface time number category discipline offset submessage message =
       let long : length (zeros 98) ≡ 98 = length-replicate {A = ℕ} 98 0 in
       let room : 98 ≤ length (zeros 98) = omega arith in
       let put₀ = put_octet 97 10 (zeros 98) (omega arith) in

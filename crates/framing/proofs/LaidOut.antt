@@ -108,15 +108,12 @@ listing_is_laid_out file = laid_from file (length file + 1) 0 0
 pub beginning_is_laid_out : {file : List ℕ} {at rest : ℕ} (some more : List Section) → LaidOut file at rest (some ++ more)
     → LaidOut file at rest some
 beginning_is_laid_out [] more l = nothing_more
-beginning_is_laid_out {at = at} (s ∷ some) more (indicator_next {g = g} {rest = rest} first total l) =
-    indicator_next first total (beginning_is_laid_out {at = g + 16} {rest = rest} some more l)
-beginning_is_laid_out {at = at} (s ∷ some) more (end_next sevens l) =
-    end_next sevens (beginning_is_laid_out {at = at + 4} {rest = 0} some more l)
-beginning_is_laid_out {file = file} {at = at} (s ∷ some) more (headed_next {later = later} a b number inside taken l) =
-    headed_next
-    a
-    b
-    number
-    inside
-    taken
-    (beginning_is_laid_out {at = at + stated_length file at} {rest = later} some more l)
+beginning_is_laid_out {file = file} {at = at} {rest = rest} (s ∷ some) more l =
+    first (λ (from left : ℕ). beginning_is_laid_out {file = file} {at = from} {rest = left} some more) at rest s l
+  where
+    first : ((at rest : ℕ) → LaidOut file at rest (some ++ more) → LaidOut file at rest some)
+        → (at rest : ℕ) (s : Section) → LaidOut file at rest (s ∷ (some ++ more)) → LaidOut file at rest (s ∷ some)
+    first later at _ _ (indicator_next {g = g} {rest = rest} opening total l) = indicator_next opening total (later (g + 16) rest l)
+    first later at _ _ (end_next sevens l) = end_next sevens (later (at + 4) 0 l)
+    first later at _ _ (headed_next {later = left} a b number inside taken l) =
+        headed_next a b number inside taken (later (at + stated_length file at) left l)

@@ -30,9 +30,9 @@ module _ (told : List Section) where
   by_number here = (here.0, ap (λ (x : Section). x.number) here.1)
 
   -- what is told from a place on says what stands there
-  pub next-told : (c : ℕ) (s : Section) (more : List Section) → drop c told ≡ s ∷ more
+  pub next_told : (c : ℕ) (s : Section) (more : List Section) → drop c told ≡ s ∷ more
       → Here c s × (drop (c + 1) told ≡ more)
-  next-told c s more e =
+  next_told c s more e =
       let here : c < length told = omega (arith, length-drop c told, ap length e) in
       let both = sym (drop-cons told c unlisted.section here) ∙ e in
       let first : get_or told c unlisted.section ≡ s = cc in
@@ -54,8 +54,8 @@ module _ (told : List Section) where
       (λ e. let same : k ≡ v = omega (arith, ltb-false k v e) in here (rw same at so))
 
   -- the last of a number stays the last where another number stands at the next place ..
-  pub last-stays : {n m from c p : ℕ} → ToldAt told m c → Not (n ≡ m) → LastBefore told n from c p → LastBefore told n from (c + 1) p
-  last-stays {n} {m} {from} {c} {p} here other l =
+  pub last_stays : {n m from c p : ℕ} → ToldAt told m c → Not (n ≡ m) → LastBefore told n from c p → LastBefore told n from (c + 1) p
+  last_stays {n} {m} {from} {c} {p} here other l =
       record {
         low = l.low;
         high = let h = l.high in omega arith;
@@ -66,8 +66,8 @@ module _ (told : List Section) where
       }
 
   -- .. and was the last before it
-  pub last-was : {n m from v p : ℕ} → ToldAt told m v → Not (n ≡ m) → LastBefore told n from (v + 1) p → LastBefore told n from v p
-  last-was {n} {m} {from} {v} {p} here other l =
+  pub last_was : {n m from v p : ℕ} → ToldAt told m v → Not (n ≡ m) → LastBefore told n from (v + 1) p → LastBefore told n from v p
+  last_was {n} {m} {from} {v} {p} here other l =
       record {
         low = l.low;
         high = let h = l.high in let differs = apart l.there here other in omega arith;
@@ -76,26 +76,26 @@ module _ (told : List Section) where
       }
 
   -- a section is the last of its number
-  pub last-is : {n from c : ℕ} → from ≤ c → ToldAt told n c → LastBefore told n from (c + 1) c
-  last-is low here = record { low = low; high = omega arith; there = here; last = λ k above below. absurd (omega arith) }
+  pub last_is : {n from c : ℕ} → from ≤ c → ToldAt told n c → LastBefore told n from (c + 1) c
+  last_is low here = record { low = low; high = omega arith; there = here; last = λ k above below. absurd (omega arith) }
 
   -- the same of a section 2
-  pub local-stays : {m : ℕ} (from c : ℕ) (local : LocalUsePlace) → ToldAt told m c → Not (2 ≡ m) → LocalBefore told from c local
+  pub local_stays : {m : ℕ} (from c : ℕ) (local : LocalUsePlace) → ToldAt told m c → Not (2 ≡ m) → LocalBefore told from c local
       → LocalBefore told from (c + 1) local
-  local-stays from c (At p) here other l = last-stays here other l
-  local-stays from c Absent here other none = λ k above below there.
+  local_stays from c (At p) here other l = last_stays here other l
+  local_stays from c Absent here other none = λ k above below there.
       up_to c (λ (k : ℕ). (from ≤ k) × ToldAt told 2 k) (λ k below so. none k so.0 below so.1)
       (λ so. apart so.1 here other refl) k below (above, there)
 
-  pub local-was : {m : ℕ} (from v : ℕ) (local : LocalUsePlace) → ToldAt told m v → Not (2 ≡ m) → LocalBefore told from (v + 1) local
+  pub local_was : {m : ℕ} (from v : ℕ) (local : LocalUsePlace) → ToldAt told m v → Not (2 ≡ m) → LocalBefore told from (v + 1) local
       → LocalBefore told from v local
-  local-was from v (At p) here other l = last-was here other l
-  local-was from v Absent here other none = λ k above below. none k above (omega arith)
+  local_was from v (At p) here other l = last_was here other l
+  local_was from v Absent here other none = λ k above below. none k above (omega arith)
 
   -- a place more counts the section there
-  pub count-step : (n m from c : ℕ) → from ≤ c → ToldAt told m c
+  pub count_step : (n m from c : ℕ) → from ≤ c → ToldAt told m c
       → count_of n (drop from (take (c + 1) told)) ≡ count_of n (drop from (take c told)) + pick (eqb m n) 1 0
-  count-step n m from c low (inside, number) =
+  count_step n m from c low (inside, number) =
       let long = length-take-le c told (omega arith) in
       let x = get_or told c unlisted.section in
       let split : drop from (take (c + 1) told) ≡ drop from (take c told) ++ (x ∷ []) =

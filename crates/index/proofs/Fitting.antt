@@ -24,7 +24,7 @@ use Rattle.order.specs.declared.Order.TheVariants.{
 }
 use Rattle.order.specs.declared.Judged.{Judged}
 use Rattle.order.specs.declared.Judged.TheVariants as says
-use Rattle.order.proofs.Laws.{closes-there}
+use Rattle.order.proofs.Laws.{closes_there}
 
 -- the sections of the submessage in hand that are read: those with a lower number, but that a section 2 may be absent
 abbrev pub level : Order → ℕ
@@ -127,7 +127,7 @@ idle AfterGrid n off other = refl
 idle AfterProduct n off other = refl
 idle AfterRepresentation n off other = refl
 idle AfterBitMap n off other = refl
-idle AfterData n off other = absurd (other (closes-there AfterData n (refl, eqb-true n 8 (not-false (eqb n 8) off))))
+idle AfterData n off other = absurd (other (closes_there AfterData n (refl, eqb-true n 8 (not-false (eqb n 8) off))))
 idle SubmessageStart n off other = refl
 
 -- a section 7 waits after 7, and nowhere else

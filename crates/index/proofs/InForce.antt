@@ -24,7 +24,7 @@ use Rattle.index.specs.declared.line.Span.{Span}
 use Rattle.index.specs.declared.line.Force.{Force}
 use Rattle.index.specs.Walk.{span_at, span_behind, comes_in_force}
 use Rattle.index.specs.Pins.{told_at, ToldAt, LastBefore, LocalBefore, count_of, PinnedLine}
-use Rattle.index.proofs.Counted.{Here, by_number, apart, last-stays, last-was, last-is, local-stays, local-was, count-step, count_none}
+use Rattle.index.proofs.Counted.{Here, by_number, apart, last_stays, last_was, last_is, local_stays, local_was, count_step, count_none}
 use Rattle.index.proofs.Fitting.{level, waiting, Fitting, opening, within}
 
 -- the place that is kept for a number
@@ -42,7 +42,7 @@ module _ (file : List ℕ) (told : List Section) where
     pub lines : f.submessage + waiting order ≡ count_of 7 (drop z (take c told))
     pub local : LocalBefore told z c f.local
     pub each : (n : ℕ) → 1 ≤ n → n < level order → Not (n ≡ 2) → LastBefore told n z c (kept f n)
-    pub data-last : waiting order ≡ 1 → kept f 7 + 1 ≡ c
+    pub data_last : waiting order ≡ 1 → kept f 7 + 1 ≡ c
     pub stated : f.span ≡ span_at file (told_at told z).offset
 
   pub data InForce (c : ℕ) : Order → Force → Type 0 where
@@ -57,13 +57,13 @@ module _ (file : List ℕ) (told : List Section) where
       record {
         room = refl;
         start = refl;
-        zeroth = last-is told (omega arith) here;
+        zeroth = last_is told (omega arith) here;
         before = before;
-        so_far = let step = count-step told 0 0 0 c (omega arith) here in omega arith;
-        lines = let step = count-step told 7 0 c c (omega arith) here in omega (arith, count_none told 7 c);
+        so_far = let step = count_step told 0 0 0 c (omega arith) here in omega arith;
+        lines = let step = count_step told 7 0 c c (omega arith) here in omega (arith, count_none told 7 c);
         local = λ k above below there. apart told there here (λ z. omega arith) (omega arith);
         each = λ n low high two. absurd (omega arith);
-        data-last = λ e. absurd (omega arith);
+        data_last = λ e. absurd (omega arith);
         stated = refl;
       }
 
@@ -71,30 +71,30 @@ module _ (file : List ℕ) (told : List Section) where
   module _ (c : ℕ) (order next : Order) (f : Force) (z n : ℕ) (i : Inside c order f z) (here : ToldAt told n c)
       (low : 1 ≤ n) (high : n < 8) (none : waiting order ≡ 0) (seven : waiting next ≡ pick (eqb n 7) 1 0)
       (lower : (k : ℕ) → k < level next → Not (k ≡ 2) → Not (k ≡ n) → k < level order) where
-    z-before : z ≤ c
-    z-before = let h = i.zeroth.high in omega arith
+    z_before : z ≤ c
+    z_before = let h = i.zeroth.high in omega arith
 
-    so-far' : f.message + 1 ≡ count_of 0 (take (c + 1) told)
-    so-far' =
-        let step = rw (ne_eqb n 0 (λ e. omega arith)) at (count-step told 0 n 0 c (omega arith) here) in
+    so_far' : f.message + 1 ≡ count_of 0 (take (c + 1) told)
+    so_far' =
+        let step = rw (ne_eqb n 0 (λ e. omega arith)) at (count_step told 0 n 0 c (omega arith) here) in
         let old = i.so_far in
         omega arith
 
     lines' : f.submessage + waiting next ≡ count_of 7 (drop z (take (c + 1) told))
-    lines' = let step = count-step told 7 n z c z-before here in let old = i.lines in omega arith
+    lines' = let step = count_step told 7 n z c z_before here in let old = i.lines in omega arith
 
-    as-local : n ≡ 2 → Inside (c + 1) next (with_local f (At (place c))) z
-    as-local two =
+    as_local : n ≡ 2 → Inside (c + 1) next (with_local f (At (place c))) z
+    as_local two =
         record {
           room = i.room;
           start = i.start;
-          zeroth = last-stays told here (λ e. omega arith) i.zeroth;
+          zeroth = last_stays told here (λ e. omega arith) i.zeroth;
           before = i.before;
-          so_far = so-far';
+          so_far = so_far';
           lines = lines';
-          local = rw two at (last-is told z-before here);
-          each = λ k one below other. last-stays told here (λ e. omega arith) (i.each k one (lower k below other (λ e. omega arith)) other);
-          data-last = λ e. let z = rw (ne_eqb n 7 (λ e. omega arith)) at seven in absurd (omega arith);
+          local = rw two at (last_is told z_before here);
+          each = λ k one below other. last_stays told here (λ e. omega arith) (i.each k one (lower k below other (λ e. omega arith)) other);
+          data_last = λ e. let z = rw (ne_eqb n 7 (λ e. omega arith)) at seven in absurd (omega arith);
           stated = i.stated;
         }
 
@@ -103,14 +103,14 @@ module _ (file : List ℕ) (told : List Section) where
         record {
           room = length-set f.places n (place c) ∙ i.room;
           start = ap (λ (p : Place). p.0) (get_or-set_other f.places n 0 (place c) (place 0) (λ e. omega arith)) ∙ i.start;
-          zeroth = last-stays told here (λ e. omega arith) i.zeroth;
+          zeroth = last_stays told here (λ e. omega arith) i.zeroth;
           before = i.before;
-          so_far = so-far';
+          so_far = so_far';
           lines = lines';
-          local = local-stays told z c f.local here (λ e. other (sym e)) i.local;
+          local = local_stays told z c f.local here (λ e. other (sym e)) i.local;
           each = λ k one below two. by_test (λ (x : ℕ). LastBefore told k z (c + 1) (kept f' k)) (eqb k n) {a = k} {b = k}
               (λ e. same k (eqb-true k n e)) (λ e. apart_from k one below two (eqb-false k n e));
-          data-last = λ e. let last = kept_new 7 (sym (is-7 (eqb n 7) refl (sym seven ∙ e))) in omega arith;
+          data_last = λ e. let last = kept_new 7 (sym (is_7 (eqb n 7) refl (sym seven ∙ e))) in omega arith;
           stated = i.stated;
         }
       where
@@ -121,23 +121,23 @@ module _ (file : List ℕ) (told : List Section) where
         kept_new k e =
             ap (kept f') e ∙ ap (λ (p : Place). p.0) (get_or-set_same f.places n (place c) (place 0) (omega (arith, i.room)))
 
-        is-7 : (t : Bool) → eqb n 7 ≡ t → pick {A = ℕ} t 1 0 ≡ 1 → n ≡ 7
-        is-7 true e one = eqb-true n 7 e
-        is-7 false e one = absurd (omega arith)
+        is_7 : (t : Bool) → eqb n 7 ≡ t → pick {A = ℕ} t 1 0 ≡ 1 → n ≡ 7
+        is_7 true e one = eqb-true n 7 e
+        is_7 false e one = absurd (omega arith)
 
         same : (k : ℕ) → k ≡ n → LastBefore told k z (c + 1) (kept f' k)
-        same k e = subst₂ (λ (m p : ℕ). LastBefore told m z (c + 1) p) (sym e) (sym (kept_new k e)) (last-is told z-before here)
+        same k e = subst₂ (λ (m p : ℕ). LastBefore told m z (c + 1) p) (sym e) (sym (kept_new k e)) (last_is told z_before here)
 
         apart_from : (k : ℕ) → 1 ≤ k → k < level next → Not (k ≡ 2) → Not (k ≡ n) → LastBefore told k z (c + 1) (kept f' k)
         apart_from k one below two differs =
             subst (LastBefore told k z (c + 1))
             (ap (λ (p : Place). p.0) (sym (get_or-set_other f.places n k (place c) (place 0) differs)))
-            (last-stays told here differs (i.each k one (lower k below two differs) two))
+            (last_stays told here differs (i.each k one (lower k below two differs) two))
 
     in_place : Inside (c + 1) next (with_span (in_force f n (place c)) f.span) z
     unfolding in_force
     in_place =
-        by_test (λ (g : Force). Inside (c + 1) next (with_span g f.span) z) (eqb n 2) (λ e. as-local (eqb-true n 2 e)) λ e.
+        by_test (λ (g : Force). Inside (c + 1) next (with_span g f.span) z) (eqb n 2) (λ e. as_local (eqb-true n 2 e)) λ e.
         by_test (λ (g : Force). Inside (c + 1) next (with_span g f.span) z) (ltb n 8) (λ below. as_place (eqb-false n 2 e)) λ above.
         absurd (omega (arith, ltb-false n 8 above))
 
@@ -162,17 +162,17 @@ module _ (file : List ℕ) (told : List Section) where
   pinned f end i closed goes_on =
       record {
         values = seventh;
-        indicator = last-was told seventh (λ e. omega arith) i.zeroth;
-        identification = last-was told seventh (λ e. omega arith) (i.each 1 (omega arith) (omega arith) (λ e. omega arith));
-        local = local-was told (kept f 0) (kept f 7) f.local seventh (λ e. omega arith) i.local;
-        grid = last-was told seventh (λ e. omega arith) (i.each 3 (omega arith) (omega arith) (λ e. omega arith));
-        product = last-was told seventh (λ e. omega arith) (i.each 4 (omega arith) (omega arith) (λ e. omega arith));
-        representation = last-was told seventh (λ e. omega arith) (i.each 5 (omega arith) (omega arith) (λ e. omega arith));
-        bitmap = last-was told seventh (λ e. omega arith) (i.each 6 (omega arith) (omega arith) (λ e. omega arith));
+        indicator = last_was told seventh (λ e. omega arith) i.zeroth;
+        identification = last_was told seventh (λ e. omega arith) (i.each 1 (omega arith) (omega arith) (λ e. omega arith));
+        local = local_was told (kept f 0) (kept f 7) f.local seventh (λ e. omega arith) i.local;
+        grid = last_was told seventh (λ e. omega arith) (i.each 3 (omega arith) (omega arith) (λ e. omega arith));
+        product = last_was told seventh (λ e. omega arith) (i.each 4 (omega arith) (omega arith) (λ e. omega arith));
+        representation = last_was told seventh (λ e. omega arith) (i.each 5 (omega arith) (omega arith) (λ e. omega arith));
+        bitmap = last_was told seventh (λ e. omega arith) (i.each 6 (omega arith) (omega arith) (λ e. omega arith));
         message = i.before;
         submessage =
             let low = (i.each 7 (omega arith) (omega arith) (λ e. omega arith)).low in
-            let step = count-step told 7 7 (kept f 0) (kept f 7) low seventh in
+            let step = count_step told 7 7 (kept f 0) (kept f 7) low seventh in
             let lines = i.lines in
             omega arith;
         closed = closed;
@@ -189,11 +189,11 @@ module _ (file : List ℕ) (told : List Section) where
       → (kept f 7 + 1 ≡ c) × Inside c AfterData f (kept f 0)
   in_hand_lem (outside count) e = let z : ◌≡◌ {A = ℕ} 0 1 = cc in absurd (omega arith)
   in_hand_lem {c} {order} {f} (inside ajar z i) e =
-      let here = subst₂ (λ (o : Order) (k : ℕ). Inside c o f k) e (sym i.start) i in (here.data-last refl, here)
+      let here = subst₂ (λ (o : Order) (k : ℕ). Inside c o f k) e (sym i.start) i in (here.data_last refl, here)
 
-  pub line-of : {c : ℕ} {order : Order} {f : Force} → InForce c order f → order ≡ AfterData → (end : MessageEnd)
+  pub line_of_lem : {c : ℕ} {order : Order} {f : Force} → InForce c order f → order ≡ AfterData → (end : MessageEnd)
       → (ToldAt told 8 c → end ≡ ClosedAt (place c)) → (Not (ToldAt told 8 c) → end ≡ GoesOn) → PinnedLine file told (line_of f end)
-  line-of {f = f} force e end closed goes_on =
+  line_of_lem {f = f} force e end closed goes_on =
       let (next, i) = in_hand_lem force e in
       pinned f end (rw (← next) at i) (rw (← next) at closed) (rw (← next) at goes_on)
 
@@ -209,10 +209,10 @@ module _ (file : List ℕ) (told : List Section) where
         lines = let old = i.lines in omega arith;
         local = i.local;
         each = i.each;
-        data-last = λ e. absurd (omega arith);
+        data_last = λ e. absurd (omega arith);
         stated = i.stated;
       }
 
-  pub gone-on : {c : ℕ} {f : Force} → InForce c AfterData f → InForce c SubmessageStart (with_submessage f (f.submessage + 1))
+  pub gone_on_lem : {c : ℕ} {f : Force} → InForce c AfterData f → InForce c SubmessageStart (with_submessage f (f.submessage + 1))
   unfolding is_between
-  gone-on {c} {f} (inside ajar z i) = inside refl z (goes_in c f z i)
+  gone_on_lem {c} {f} (inside ajar z i) = inside refl z (goes_in c f z i)

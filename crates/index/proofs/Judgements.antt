@@ -23,24 +23,24 @@ module _ (room : Room) (r : Reached) (s : Section) where
   line = line_of r.force GoesOn
 
   -- a submessage that goes on: 14 comes first
-  pub going-on-no-line : completes r.order s.number ≡ true → room.lines ≤ r.lines
+  pub going_on_no_line : completes r.order s.number ≡ true → room.lines ≤ r.lines
       → judgement room r s ≡ stops [] refusal.SubmessageTableFull
   unfolding judgement
-  going-on-no-line goes full = rw (goes, le-leb _ _ full)
+  going_on_no_line goes full = rw (goes, le-leb _ _ full)
 
   -- then 11, and the line stands
-  pub going-on-misplaced : completes r.order s.number ≡ true → r.lines < room.lines
+  pub going_on_misplaced : completes r.order s.number ≡ true → r.lines < room.lines
       → judged SubmessageStart s.number ≡ judged.Misplaced
       → judgement room r s ≡ stops (line ∷ []) (refusal.Misplaced s.number)
   unfolding judgement by_order
-  going-on-misplaced goes free misfit = rw (goes, lt-leb _ _ free, misfit)
+  going_on_misplaced goes free misfit = rw (goes, lt-leb _ _ free, misfit)
 
   -- then 13, and the line stands
-  pub going-on-no-row : {next : Order} → completes r.order s.number ≡ true → r.lines < room.lines
+  pub going_on_no_row : {next : Order} → completes r.order s.number ≡ true → r.lines < room.lines
       → judged SubmessageStart s.number ≡ judged.Fits next → room.rows ≤ r.sections
       → judgement room r s ≡ stops (line ∷ []) refusal.SectionTableFull
   unfolding judgement by_order fitted
-  going-on-no-row goes free fits full = rw (goes, lt-leb _ _ free, fits, le-leb _ _ full)
+  going_on_no_row goes free fits full = rw (goes, lt-leb _ _ free, fits, le-leb _ _ full)
 
   -- no submessage is complete: 11, 12 ..
   pub misplaced : completes r.order s.number ≡ false → judged r.order s.number ≡ judged.Misplaced
@@ -54,12 +54,12 @@ module _ (room : Room) (r : Reached) (s : Section) where
   no_grid stays misfit = rw (stays, misfit)
 
   -- .. then 13; else the section is passed, and in force at its place
-  pub fitted-no-row : (lines : List Line) (next : Order) → room.rows ≤ r.sections
+  pub fitted_no_row : (lines : List Line) (next : Order) → room.rows ≤ r.sections
       → fitted room r s lines next ≡ stops lines refusal.SectionTableFull
   unfolding fitted
-  fitted-no-row lines next full = rw (le-leb _ _ full)
+  fitted_no_row lines next full = rw (le-leb _ _ full)
 
-  pub fitted-passes : (lines : List Line) (next : Order) → r.sections < room.rows
+  pub fitted_passes : (lines : List Line) (next : Order) → r.sections < room.rows
       → fitted room r s lines next
       ≡ passes lines 0
       (record {
@@ -71,20 +71,20 @@ module _ (room : Room) (r : Reached) (s : Section) where
         force = comes_in_force r.file r.force s (place r.sections);
       })
   unfolding fitted
-  fitted-passes lines next free = rw (lt-leb _ _ free)
+  fitted_passes lines next free = rw (lt-leb _ _ free)
 
   -- a section 8 that closes: 13, then 14, neither line stored
-  pub closing-no-row : room.rows ≤ r.sections → closing room r s ≡ stops [] refusal.SectionTableFull
+  pub closing_no_row : room.rows ≤ r.sections → closing room r s ≡ stops [] refusal.SectionTableFull
   unfolding closing
-  closing-no-row full = rw (le-leb _ _ full)
+  closing_no_row full = rw (le-leb _ _ full)
 
-  pub closing-no-line : r.sections < room.rows → room.lines ≤ r.lines
+  pub closing_no_line : r.sections < room.rows → room.lines ≤ r.lines
       → closing room r s ≡ stops [] refusal.SubmessageTableFull
   unfolding closing
-  closing-no-line free full = rw (lt-leb _ _ free, le-leb _ _ full)
+  closing_no_line free full = rw (lt-leb _ _ free, le-leb _ _ full)
 
   -- else both, one message more is closed, and the next begins with nothing in force
-  pub closing-closes : r.sections < room.rows → r.lines < room.lines
+  pub closing_closes : r.sections < room.rows → r.lines < room.lines
       → closing room r s
       ≡ passes (line_of r.force (ClosedAt (place r.sections)) ∷ []) 1
       (record {
@@ -96,4 +96,4 @@ module _ (room : Room) (r : Reached) (s : Section) where
         force = opened (r.force.message + 1);
       })
   unfolding closing
-  closing-closes free line = rw (lt-leb _ _ free, lt-leb _ _ line)
+  closing_closes free line = rw (lt-leb _ _ free, lt-leb _ _ line)

@@ -36,8 +36,8 @@ module _ (told : List Section) where
   one_local from v Absent Absent a b = refl
 
   -- a section of a number is told at a place, or not
-  by-told : (n p : ℕ) (So : Type 0) → (ToldAt told n p → So) → (Not (ToldAt told n p) → So) → So
-  by-told n p So there absent = inside (ltb p (length told)) refl
+  by_told : (n p : ℕ) (So : Type 0) → (ToldAt told n p → So) → (Not (ToldAt told n p) → So) → So
+  by_told n p So there absent = inside (ltb p (length told)) refl
     where
       number : p < length told → (t : Bool) → eqb (get_or told p unlisted.section).number n ≡ t → So
       number low true e = there (low, eqb-true _ n e)
@@ -72,7 +72,7 @@ one_line file told a b p q v = λ i.
 
     end : a.end ≡ b.end
     end =
-        by-told told 8 (a.values.0 + 1) (a.end ≡ b.end)
+        by_told told 8 (a.values.0 + 1) (a.end ≡ b.end)
         (λ there. p.closed there ∙ ap (λ (k : ℕ). ClosedAt (place (k + 1))) v ∙ sym (q.closed (rw v at there)))
         (λ absent. p.goes_on absent ∙ sym (q.goes_on (rw v at absent)))
 

@@ -32,16 +32,16 @@ nothing_before [] text e = refl
 nothing_before (octet ∷ front) text e = absurd (omega arith)
 
 module _ (file text : List ℕ) where
-  refused-by : {why : Refusal} {p : Place} {offset : Offset} → (walked unlimited file).outcome ≡ outcome.Refused why p offset
+  refused_by_lem : {why : Refusal} {p : Place} {offset : Offset} → (walked unlimited file).outcome ≡ outcome.Refused why p offset
       → inventory_of file text ≡ record { answer = Refused why p offset; text = text }
   unfolding inventory_of inventory_by
-  refused-by e = ap (λ (o : Outcome). inventory_by o (entries_of file) text) e
+  refused_by_lem e = ap (λ (o : Outcome). inventory_by o (entries_of file) text) e
 
   pub too_long : most_octets < length file → Answers file text (Refused refusal.FileTooLong (place 0) (record { 0 = 0 })) text
   unfolding walked
   too_long long =
       let ends : (walked unlimited file).outcome ≡ outcome.Refused refusal.FileTooLong (place 0) (record { 0 = 0 }) = rw (lt-ltb _ _ long) in
-      rw (refused-by ends) (refl, refl)
+      rw (refused_by_lem ends) (refl, refl)
 
   -- the lines are measured
   module _ {front : List ℕ} {measured : Listing} (first : PutLines file [] front measured) where
@@ -50,18 +50,18 @@ module _ (file text : List ℕ) where
 
     pub refused : {why : Refusal} {p : Place} {offset : Offset} → measured.outcome ≡ outcome.Refused why p offset
         → Answers file text (Refused why p offset) (front ++ text)
-    refused e = rw (same, refused-by (sym first.ends ∙ e)) (refl, refl)
+    refused e = rw (same, refused_by_lem (sym first.ends ∙ e)) (refl, refl)
 
     module _ (clean : measured.outcome ≡ outcome.Clean) where
-      by-text : inventory_of file text ≡ text_into (text_of (entries_of file)) text
+      by_text : inventory_of file text ≡ text_into (text_of (entries_of file)) text
       unfolding inventory_of inventory_by
-      by-text = ap (λ (o : Outcome). inventory_by o (entries_of file) text) (sym first.ends ∙ clean)
+      by_text = ap (λ (o : Outcome). inventory_by o (entries_of file) text) (sym first.ends ∙ clean)
 
       pub too_small : length (front ++ text) < measured.octets → Answers file text TextTooSmall (front ++ text)
       unfolding text_into
       too_small small =
           let short : length text < length (text_of (entries_of file)) = subst₂ ◌<◌ (ap length same) (first.measured clean) small in
-          rw (same, by-text, lt-ltb _ _ short) (refl, refl)
+          rw (same, by_text, lt-ltb _ _ short) (refl, refl)
 
       -- and put
       pub whole : {after : List ℕ} {told : Listing} → measured.octets ≤ length (front ++ text) → PutLines file (front ++ text) after told
@@ -71,4 +71,4 @@ module _ (file text : List ℕ) where
           let octets = second.measured (second.ends ∙ sym first.ends ∙ clean) in
           let fits : length (text_of (entries_of file)) ≤ length text = subst₂ ◌≤◌ (first.measured clean) (ap length same) room in
           let put = second.put (second.ends ∙ sym first.ends ∙ clean) (omega (arith, ap length same)) in
-          rw (by-text, le-ltb _ _ fits) (ap Whole octets, put ∙ ap (λ (t : List ℕ). put_in_text t 0 (text_of (entries_of file))) same ∙ rw zero-add)
+          rw (by_text, le-ltb _ _ fits) (ap Whole octets, put ∙ ap (λ (t : List ℕ). put_in_text t 0 (text_of (entries_of file))) same ∙ rw zero-add)

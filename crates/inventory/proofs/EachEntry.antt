@@ -33,7 +33,7 @@ use Rattle.inventory.specs.Inventory.{
   entries_of,
 }
 use Rattle.inventory.specs.Laws.{behind_header, PinnedEntry, EachTwo, EachLineHasItsEntry}
-use Rattle.inventory.proofs.Remembered.{StandsThere, entry-at}
+use Rattle.inventory.proofs.Remembered.{StandsThere, entry_at_lem}
 
 -- a part behind a part
 drop_take : (k n : ℕ) (l : List ℕ) → drop k (take n l) ≡ take (n - k) (drop k l)
@@ -54,19 +54,19 @@ module _ (file : List ℕ) where
   abbrev pub WholeIndicator : Section → Type 0
   WholeIndicator s = (s.length ≡ 16) × (s.offset.0 + 16 ≤ length file)
 
-  pub whole-indicator : {at rest : ℕ} {told : List Section} → LaidOut file at rest told → (p : ℕ)
+  pub whole_indicator : {at rest : ℕ} {told : List Section} → LaidOut file at rest told → (p : ℕ)
       → ToldAt told 0 p → WholeIndicator (told_at told p)
-  whole-indicator nothing_more p (inside, number) = absurd (omega arith)
-  whole-indicator (indicator_next first total more) zero there = (refl, first.1.0)
-  whole-indicator (indicator_next first total more) (suc p) (inside, number) =
-      whole-indicator more p (omega arith, number)
-  whole-indicator (end_next mark more) zero (inside, number) = absurd (omega arith)
-  whole-indicator (end_next mark more) (suc p) (inside, number) =
-      whole-indicator more p (omega arith, number)
-  whole-indicator (headed_next some other bounds whole left more) zero (inside, number) =
+  whole_indicator nothing_more p (inside, number) = absurd (omega arith)
+  whole_indicator (indicator_next first total more) zero there = (refl, first.1.0)
+  whole_indicator (indicator_next first total more) (suc p) (inside, number) =
+      whole_indicator more p (omega arith, number)
+  whole_indicator (end_next mark more) zero (inside, number) = absurd (omega arith)
+  whole_indicator (end_next mark more) (suc p) (inside, number) =
+      whole_indicator more p (omega arith, number)
+  whole_indicator (headed_next some other bounds whole left more) zero (inside, number) =
       let low = bounds.0 in absurd (omega arith)
-  whole-indicator (headed_next some other bounds whole left more) (suc p) (inside, number) =
-      whole-indicator more p (omega arith, number)
+  whole_indicator (headed_next some other bounds whole left more) (suc p) (inside, number) =
+      whole_indicator more p (omega arith, number)
 
   -- and says its discipline in octet 7
   abbrev said_by : Section → Indicator
@@ -75,10 +75,10 @@ module _ (file : List ℕ) where
     total = be_at (own_octets file s) 8 8;
   }
 
-  indicator-says : (s : Section) → WholeIndicator s
+  indicator_says : (s : Section) → WholeIndicator s
       → indicator_of (own_octets file s) ≡ Fields (said_by s)
   unfolding indicator_of own_octets
-  indicator-says s (size, room) =
+  indicator_says s (size, room) =
       let own = take s.length (drop s.offset.0 file) in
       let long : length own ≡ s.length =
       length-take-le s.length (drop s.offset.0 file) (simp length-drop (omega arith)) in
@@ -111,9 +111,9 @@ has_entry file told laid line pins =
     record {
       entry = entry_with line (said_by file z) product;
       alone =
-          entry-at file told line (stands_told told 0 line.indicator.0 zeroth)
+          entry_at_lem file told line (stands_told told 0 line.indicator.0 zeroth)
           (stands_told told 4 line.product.0 fourth)
-          ∙ rw (indicator-says file z (whole-indicator file laid line.indicator.0 zeroth));
+          ∙ rw (indicator_says file z (whole_indicator file laid line.indicator.0 zeroth));
       pinned =
           record {
             zeroth = zeroth;

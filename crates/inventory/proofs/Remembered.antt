@@ -68,9 +68,9 @@ module _ (f : Force) (n : ℕ) (c : ℕ) where
       So g = (g.message ≡ f.message) × (g.submessage ≡ f.submessage)
           × (length g.places ≡ length f.places)
 
-  kept-other : (k : ℕ) → Not (k ≡ n) → kept after k ≡ kept f k
+  kept_other : (k : ℕ) → Not (k ≡ n) → kept after k ≡ kept f k
   unfolding in_force
-  kept-other k other =
+  kept_other k other =
       by_test (λ (g : Force). kept g k ≡ kept f k) (eqb n 2) (λ e. refl) λ e.
       by_test (λ (g : Force). kept g k ≡ kept f k) (ltb n 8)
       (λ low. ap (λ (p : Place). p.0) (get_or-set_other f.places n k (place c) (place 0) other))
@@ -87,32 +87,32 @@ module _ (f : Force) (n : ℕ) (c : ℕ) where
 
 -- and in memory
 module _ (m : Memory) (s : Section) where
-  pub memory-numbers : ((with_section m s).message ≡ m.message)
+  pub memory_numbers : ((with_section m s).message ≡ m.message)
       × ((with_section m s).submessage ≡ m.submessage)
   unfolding with_section
-  memory-numbers =
+  memory_numbers =
       by_test So (eqb s.number 0) (λ e. (refl, refl))
       λ e. by_test So (eqb s.number 4) (λ f. (refl, refl)) (λ f. (refl, refl))
     where
       So : Memory → Type 0
       So x = (x.message ≡ m.message) × (x.submessage ≡ m.submessage)
 
-  zeroth-new : s.number ≡ 0 → (with_section m s).zeroth ≡ s
+  zeroth_new : s.number ≡ 0 → (with_section m s).zeroth ≡ s
   unfolding with_section
-  zeroth-new e = rw e
+  zeroth_new e = rw e
 
-  zeroth-other : Not (s.number ≡ 0) → (with_section m s).zeroth ≡ m.zeroth
+  zeroth_other : Not (s.number ≡ 0) → (with_section m s).zeroth ≡ m.zeroth
   unfolding with_section
-  zeroth-other other = rw (ne_eqb s.number 0 other)
+  zeroth_other other = rw (ne_eqb s.number 0 other)
       (by_test (λ (x : Memory). x.zeroth ≡ m.zeroth) (eqb s.number 4) (λ e. refl) (λ e. refl))
 
-  fourth-new : s.number ≡ 4 → (with_section m s).fourth ≡ s
+  fourth_new : s.number ≡ 4 → (with_section m s).fourth ≡ s
   unfolding with_section
-  fourth-new e = rw e
+  fourth_new e = rw e
 
-  fourth-other : Not (s.number ≡ 4) → (with_section m s).fourth ≡ m.fourth
+  fourth_other : Not (s.number ≡ 4) → (with_section m s).fourth ≡ m.fourth
   unfolding with_section
-  fourth-other other = rw (ne_eqb s.number 4 other)
+  fourth_other other = rw (ne_eqb s.number 4 other)
       (by_test (λ (x : Memory). x.fourth ≡ m.fourth) (eqb s.number 0) (λ e. refl) (λ e. refl))
 
 module _ (told : List Section) where
@@ -138,59 +138,59 @@ module _ (told : List Section) where
     abbrev m' : Memory
     m' = with_section m s
 
-    zeroth-comes : {order next : Order} → Remembered order f m → Fitting s.number order next
+    zeroth_comes : {order next : Order} → Remembered order f m → Fitting s.number order next
         → StandsThere 0 (kept f' 0) m'.zeroth
-    zeroth-comes k (opening e) =
+    zeroth_comes k (opening e) =
         let new = kept_new f s.number c k.room (omega arith) (λ z. omega arith) in
-        subst₂ (StandsThere 0) (sym (ap (kept f') (sym e) ∙ new)) (sym (zeroth-new m s e))
+        subst₂ (StandsThere 0) (sym (ap (kept f') (sym e) ∙ new)) (sym (zeroth_new m s e))
         (record { there = here; number_is = e })
-    zeroth-comes k (within was ajar low high none seven lower) =
-        subst₂ (StandsThere 0) (sym (kept-other f s.number c 0 (λ z. omega arith)))
-        (sym (zeroth-other m s (λ z. omega arith)))
+    zeroth_comes k (within was ajar low high none seven lower) =
+        subst₂ (StandsThere 0) (sym (kept_other f s.number c 0 (λ z. omega arith)))
+        (sym (zeroth_other m s (λ z. omega arith)))
         (k.zeroth was)
 
-    offset-comes : {order next : Order} → Remembered order f m → Fitting s.number order next
+    offset_comes : {order next : Order} → Remembered order f m → Fitting s.number order next
         → f'.span.offset ≡ m'.zeroth.offset
     unfolding span_behind span_at
-    offset-comes k (opening e) =
-        rw (eq-eqb s.number 0 e) (ap (λ (z : Section). z.offset) (sym (zeroth-new m s e)))
-    offset-comes k (within was ajar low high none seven lower) =
+    offset_comes k (opening e) =
+        rw (eq-eqb s.number 0 e) (ap (λ (z : Section). z.offset) (sym (zeroth_new m s e)))
+    offset_comes k (within was ajar low high none seven lower) =
         let other : Not (s.number ≡ 0) = λ z. omega arith in
         rw (ne_eqb s.number 0 other)
-        (k.offset was ∙ ap (λ (z : Section). z.offset) (sym (zeroth-other m s other)))
+        (k.offset was ∙ ap (λ (z : Section). z.offset) (sym (zeroth_other m s other)))
 
-    fourth-comes : {order next : Order} → Remembered order f m → Fitting s.number order next
+    fourth_comes : {order next : Order} → Remembered order f m → Fitting s.number order next
         → 4 < level next
         → StandsThere 4 (kept f' 4) m'.fourth
-    fourth-comes k (opening e) early = absurd (omega arith)
-    fourth-comes {order} k (within was ajar low high none seven lower) late =
+    fourth_comes k (opening e) early = absurd (omega arith)
+    fourth_comes {order} k (within was ajar low high none seven lower) late =
         by_test (λ (n : ℕ). StandsThere 4 (kept f' 4) m'.fourth) (eqb s.number 4) {a = 0}
         {b = 0}
-        (λ e. as-new (eqb-true s.number 4 e))
+        (λ e. as_new (eqb-true s.number 4 e))
         (λ e.
         let other = eqb-false s.number 4 e in
-        subst₂ (StandsThere 4) (sym (kept-other f s.number c 4 (λ z. other (sym z))))
-        (sym (fourth-other m s other))
+        subst₂ (StandsThere 4) (sym (kept_other f s.number c 4 (λ z. other (sym z))))
+        (sym (fourth_other m s other))
         (k.fourth (lower 4 late (λ z. omega arith) (λ z. other (sym z)))))
       where
-        as-new : s.number ≡ 4 → StandsThere 4 (kept f' 4) m'.fourth
-        as-new e =
+        as_new : s.number ≡ 4 → StandsThere 4 (kept f' 4) m'.fourth
+        as_new e =
             let new = kept_new f s.number c k.room high (λ z. omega arith) in
-            subst₂ (StandsThere 4) (sym (ap (kept f') (sym e) ∙ new)) (sym (fourth-new m s e))
+            subst₂ (StandsThere 4) (sym (ap (kept f') (sym e) ∙ new)) (sym (fourth_new m s e))
             (record { there = here; number_is = e })
 
     pub comes : {order next : Order} → Remembered order f m → Fitting s.number order next
         → Remembered next f' m'
     comes k fits =
         let (message, submessage, long) = same_numbers f s.number c in
-        let (message', submessage') = memory-numbers m s in
+        let (message', submessage') = memory_numbers m s in
         record {
           room = long ∙ k.room;
           message = message ∙ k.message ∙ sym message';
           submessage = submessage ∙ k.submessage ∙ sym submessage';
-          zeroth = λ ajar. zeroth-comes k fits;
-          offset = λ ajar. offset-comes k fits;
-          fourth = fourth-comes k fits;
+          zeroth = λ ajar. zeroth_comes k fits;
+          offset = λ ajar. offset_comes k fits;
+          fourth = fourth_comes k fits;
         }
 
   -- a message that goes on
@@ -265,7 +265,7 @@ module _ (file : List ℕ) (told : List Section) where
   from_one line NoIndicator product = refl
 
   -- where these stand at its places
-  from-lists : (line : Line) (z p : Section) (zeroths fourths : List SectionFields)
+  from_lists : (line : Line) (z p : Section) (zeroths fourths : List SectionFields)
       → zeroths ≡ of_indicator (indicator_of (own_octets file z)) ∷ []
       → fourths ≡ of_product (product_section_of (payload_of file p)) ∷ []
       → (for_each (for_each zeroths indicator_in) λ i.
@@ -274,29 +274,29 @@ module _ (file : List ℕ) (told : List Section) where
       ≡ for_each (indicator_in (of_indicator (indicator_of (own_octets file z))))
       λ i. entry_with line i (product_of ByManual (payload_of file p)) ∷ []
   unfolding product_in product_section_of
-  from-lists line z p zeroths fourths f g =
+  from_lists line z p zeroths fourths f g =
       rw (f, g) (from_one line (indicator_of (own_octets file z))
       (product_of ByManual (payload_of file p)))
 
-  pub entry-at : (line : Line) {z p : Section} → StandsThere told 0 line.indicator.0 z
+  pub entry_at_lem : (line : Line) {z p : Section} → StandsThere told 0 line.indicator.0 z
       → StandsThere told 4 line.product.0 p
       → entry_at (decoded file told) line
       ≡ for_each (indicator_in (of_indicator (indicator_of (own_octets file z))))
       λ i. entry_with line i (product_of ByManual (payload_of file p)) ∷ []
   unfolding entry_at
-  entry-at line {z} {p} zeroth fourth =
+  entry_at_lem line {z} {p} zeroth fourth =
       let here = line.indicator.0 in
       let there = line.product.0 in
-      from-lists line z p (stands_at here (decoded file told)) (stands_at there (decoded file told))
+      from_lists line z p (stands_at here (decoded file told)) (stands_at there (decoded file told))
       (stands_decoded file told here zeroth.there
       ∙ ap (λ (x : SectionFields). x ∷ []) (fields_0 file z zeroth.number_is))
       (stands_decoded file told there fourth.there
       ∙ ap (λ (x : SectionFields). x ∷ []) (fields_4 file p fourth.number_is))
 
   -- is that of what is remembered
-  pub remembered-entry : {f : Force} {m : Memory} (end : MessageEnd) → Remembered told AfterData f m
+  pub remembered_entry : {f : Force} {m : Memory} (end : MessageEnd) → Remembered told AfterData f m
       → entry_at (decoded file told) (line_of f end) ≡ entries_in file m
   unfolding line_of entries_in is_between
-  remembered-entry {f} {m} end k =
-      entry-at (line_of f end) (k.zeroth refl) (k.fourth (omega arith))
+  remembered_entry {f} {m} end k =
+      entry_at_lem (line_of f end) (k.zeroth refl) (k.fourth (omega arith))
       ∙ rw (k.message, k.submessage, k.offset refl)

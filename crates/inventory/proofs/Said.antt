@@ -11,10 +11,10 @@ use borrow.Author.Tests.{ltb-false}
 use Rattle.products.specs.declared.templates.TemplateReading.TheVariants.{ByManual}
 use Rattle.products.proofs.Within.{
   Octets,
-  category-within,
-  parameter-within,
-  forecast-within,
-  fixed-within,
+  category_within,
+  parameter_within,
+  forecast_within,
+  fixed_within,
 }
 use Rattle.framing.specs.Framing.{read_at}
 use Rattle.framing.specs.Listing.{Ending, Listing, listed_by, listing_from, listing}
@@ -46,7 +46,7 @@ use Rattle.entries.specs.declared.Entry.{Entry}
 use Rattle.entries.proofs.Laws.{written_says_its_list}
 use Rattle.inventory.specs.Inventory.{first_surface, entries_of}
 use Rattle.inventory.specs.Laws.{behind_header, PinnedEntry, EachTwo, InventorySaysItsEntries}
-use Rattle.inventory.proofs.EachEntry.{whole-indicator, each_line_has_its_entry}
+use Rattle.inventory.proofs.EachEntry.{whole_indicator, each_line_has_its_entry}
 
 -- no more sections are told than the file has octets
 few_read : (file : List ℕ) (at rest : ℕ) (found : Read) (f : ℕ → ℕ → Listing)
@@ -118,17 +118,17 @@ module _ (file : List ℕ) (every : Every InOctet file) (fits : length file ≤ 
   abbrev told : List Section
   told = (walked unlimited file).sections
 
-  entry-in-bounds : (line : Line) (e : Entry) → PinnedLine file told line
+  entry_in_bounds : (line : Line) (e : Entry) → PinnedLine file told line
       → PinnedEntry file told line e → InBounds e
   unfolding first_surface
-  entry-in-bounds line e pins pinned =
+  entry_in_bounds line e pins pinned =
       let few = few_told file in
       let fourth = told_at told line.product.0 in
       let s = behind_header file fourth in
       let behind = fourth.offset.0 + 5 in
       let octets = octets_of_lem s
       (every_take (fourth.length - 5) (drop behind file) (every_drop behind file every)) in
-      let (size, room) = whole-indicator file (rows_are_laid_out unlimited file)
+      let (size, room) = whole_indicator file (rows_are_laid_out unlimited file)
       line.indicator.0 pinned.zeroth in
       let before = take line.indicator.0 told in
       let within = drop line.indicator.0 (take line.values.0 told) in
@@ -140,21 +140,23 @@ module _ (file : List ℕ) (every : Every InOctet file) (fits : length file ≤ 
         submessage = omega (arith, pinned.submessage, pins.submessage, count_few 7 within);
         offset = rw pinned.there (omega arith);
         discipline = rw pinned.discipline (octets_of_lem file every (e.offset.0 + 6));
-        category = rw pinned.category (category-within OctetInBounds tt (λ n low. low) s octets);
-        number = rw pinned.number (parameter-within OctetInBounds tt (λ n low. low) s octets);
+        category = rw pinned.category (category_within OctetInBounds tt (λ n low. low) s octets);
+        number = rw pinned.number (parameter_within OctetInBounds tt (λ n low. low) s octets);
         time = rw pinned.time
-            (forecast-within TimeInBounds tt (λ t unit time. (unit, time)) ByManual s octets);
+            (forecast_within TimeInBounds tt (λ t unit time. (unit, time)) ByManual s octets);
         surface = rw pinned.surface
-            (fixed-within (λ x. OctetInBounds (first_surface x)) tt (λ a b low. low) ByManual s
+            (fixed_within (λ x. OctetInBounds (first_surface x)) tt (λ a b low. low) ByManual s
             octets);
       }
 
-  each-in-bounds : (lines : List Line) (entries : List Entry) → Every (PinnedLine file told) lines
+  each_in_bounds : (lines : List Line) (entries : List Entry) → Every (PinnedLine file told) lines
       → EachTwo (PinnedEntry file told) lines entries
       → Every InBounds entries
-  each-in-bounds [] [] pins pinned = tt
-  each-in-bounds (line ∷ lines) (e ∷ entries) (pin, pins) (one, more) =
-      (entry-in-bounds line e pin one, each-in-bounds lines entries pins more)
+  each_in_bounds [] [] pins pinned = tt
+  each_in_bounds [] (e ∷ entries) pins pinned = elim pinned [ ]
+  each_in_bounds (line ∷ lines) [] pins pinned = elim pinned [ ]
+  each_in_bounds (line ∷ lines) (e ∷ entries) (pin, pins) (one, more) =
+      (entry_in_bounds line e pin one, each_in_bounds lines entries pins more)
 
 -- a file that is too long has none
 too_long : (file : List ℕ) → ltb most_octets (length file) ≡ true → entries_of file ≡ []
@@ -167,7 +169,7 @@ entries_in_bounds file every = by_length (ltb most_octets (length file)) refl
     by_length : (t : Bool) → ltb most_octets (length file) ≡ t → Every InBounds (entries_of file)
     by_length true long = subst (Every InBounds) (sym (too_long file long)) tt
     by_length false short =
-        each-in-bounds file every (ltb-false most_octets (length file) short)
+        each_in_bounds file every (ltb-false most_octets (length file) short)
         (walked unlimited file).lines (entries_of file)
         (lines_are_pinned unlimited file) (each_line_has_its_entry file)
 

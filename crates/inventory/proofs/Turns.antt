@@ -20,7 +20,7 @@ use Rattle.order.specs.declared.Order.{Order}
 use Rattle.order.specs.declared.Order.TheVariants.{BetweenMessages, AfterData, SubmessageStart}
 use Rattle.order.specs.declared.Judged.{Judged}
 use Rattle.order.specs.declared.Judged.TheVariants as says
-use Rattle.order.proofs.Laws.{closes-only, completes_only, starts-next}
+use Rattle.order.proofs.Laws.{closes_only, completes_only, starts_next}
 use Rattle.index.specs.Lines.{place, unlisted, opened, line_of}
 use Rattle.index.specs.declared.line.MessageEnd.TheVariants.{GoesOn, ClosedAt}
 use Rattle.index.specs.Bounds.{most_octets, unlimited}
@@ -32,14 +32,14 @@ use Rattle.index.specs.declared.listed.Listed.{Listed}
 use Rattle.index.specs.declared.refusal.Refusal.{Refusal}
 use Rattle.index.specs.declared.refusal.Outcome.{Outcome}
 use Rattle.index.specs.declared.refusal.Outcome.TheVariants.{Clean, Refused}
-use Rattle.index.proofs.Counted.{next-told}
+use Rattle.index.proofs.Counted.{next_told}
 use Rattle.index.proofs.Fitting.{Fitting, fitting}
 use Rattle.reading.specs.Reading.{reading, start, seen}
 use Rattle.reading.specs.declared.Reading.{Reading}
 use Rattle.reading.specs.declared.Seen.{Seen}
 use Rattle.reading.specs.declared.Seen.TheVariants as seen
 use Rattle.reading.specs.contracts.Seen.{the_type}
-use Rattle.reading.proofs.Moves.{passes-fits, closes-judged, closes-between}
+use Rattle.reading.proofs.Moves.{passes_fits, closes_judged, closes_between}
 use Rattle.reading.proofs.Untabled as steps
 use Rattle.reading.proofs.Untabled.{told_on, Bounded, Passes, Moved, on_within, on_completing, on_closing, first_told, first_bounded}
 use Rattle.entries.specs.Entries.{entry_line, text_of, most_line}
@@ -52,7 +52,7 @@ use Rattle.inventory.specs.declared.turn.Due.{Due}
 use Rattle.inventory.specs.declared.turn.Due.TheVariants.{NoLine, Line, LastLine}
 use Rattle.inventory.specs.declared.memory.Memory.{Memory}
 use Rattle.inventory.proofs.Parts.{written_more}
-use Rattle.inventory.proofs.Remembered.{memory-numbers, Remembered, comes, goes_on, closes, remembered-entry}
+use Rattle.inventory.proofs.Remembered.{memory_numbers, Remembered, comes, goes_on, closes, remembered_entry}
 
 -- what is in force behind a section, and the lines told because of it, by what was due
 pub data DueOf (r : Reached) (s : Section) (next : Order) : Due → Force → List SubmessageLine → Type 0 where
@@ -72,14 +72,14 @@ unfolding completes
 passes_due {r} {s} (on_within off fits) e = rw off (none (fitting r.order s.number off fits))
 passes_due {r} {s} (on_completing on fits) e =
     let (order, other) = completes_only r.order s.number on in
-    rw on (one order (fitting SubmessageStart s.number refl (sym (starts-next s.number other) ∙ rw (← order) fits)))
+    rw on (one order (fitting SubmessageStart s.number refl (sym (starts_next s.number other) ∙ rw (← order) fits)))
 passes_due (on_closing closed) e = absurd (fits_or_closes e closed)
 
 closes_due : {r : Reached} {s : Section} {next : Order} {f : Force} {lines : List SubmessageLine} → Moved r s next f lines
     → judged r.order s.number ≡ says.Closes → next ≡ BetweenMessages → DueOf r s next LastLine f lines
 closes_due (on_within off fits) e between = absurd (fits_or_closes fits e)
 closes_due (on_completing on fits) e between = absurd (fits_or_closes fits e)
-closes_due {r} {s} (on_closing closed) e between = last (closes-only r.order s.number closed).0 between
+closes_due {r} {s} (on_closing closed) e between = last (closes_only r.order s.number closed).0 between
 
 -- the entries of lines one behind the other, and their text
 entries_append : (a b : List SubmessageLine) (f : SubmessageLine → List Entry) → for_each (a ++ b) f ≡ for_each a f ++ for_each b f
@@ -100,42 +100,42 @@ module _ (file : List ℕ) where
   entries_for lines = for_each lines (entry_at (decoded file told))
 
   -- what is due is the entries of the lines told
-  due-entries : {r : Reached} {s : Section} {next : Order} {due : Due} {f : Force} {lines : List SubmessageLine} {m : Memory}
+  due_entries_lem : {r : Reached} {s : Section} {next : Order} {due : Due} {f : Force} {lines : List SubmessageLine} {m : Memory}
       → DueOf r s next due f lines → Remembered told r.order r.force m → entries_for lines ≡ due_entries file m due
   unfolding due_entries
-  due-entries (none fits) k = refl
-  due-entries {r} {m = m} (one order fits) k =
-      append-nil _ ∙ remembered-entry file told GoesOn (subst (λ (o : Order). Remembered told o r.force m) order k)
-  due-entries {r} {m = m} (last order between) k =
-      append-nil _ ∙ remembered-entry file told (ClosedAt (place r.sections)) (subst (λ (o : Order). Remembered told o r.force m) order k)
+  due_entries_lem (none fits) k = refl
+  due_entries_lem {r} {m = m} (one order fits) k =
+      append-nil _ ∙ remembered_entry file told GoesOn (subst (λ (o : Order). Remembered told o r.force m) order k)
+  due_entries_lem {r} {m = m} (last order between) k =
+      append-nil _ ∙ remembered_entry file told (ClosedAt (place r.sections)) (subst (λ (o : Order). Remembered told o r.force m) order k)
 
   -- and the section is remembered
-  due-remembered : {r : Reached} {s : Section} {next : Order} {due : Due} {f : Force} {lines : List SubmessageLine} {m : Memory}
+  due_remembered : {r : Reached} {s : Section} {next : Order} {due : Due} {f : Force} {lines : List SubmessageLine} {m : Memory}
       → DueOf r s next due f lines → Remembered told r.order r.force m → stands_at r.sections told ≡ s ∷ []
       → Remembered told next f (remembered due m s)
   unfolding remembered
-  due-remembered {r} {s} {m = m} (none fits) k here = comes told r.file r.force m s r.sections here k fits
-  due-remembered {r} {s} {m = m} (one order fits) k here =
+  due_remembered {r} {s} {m = m} (none fits) k here = comes told r.file r.force m s r.sections here k fits
+  due_remembered {r} {s} {m = m} (one order fits) k here =
       comes told r.file (gone_on r).force _ s r.sections here (goes_on told (subst (λ (o : Order). Remembered told o r.force m) order k)) fits
-  due-remembered {r} {s} {next} {m = m} (last order between) k here =
+  due_remembered {r} {s} {next} {m = m} (last order between) k here =
       subst (λ (o : Order). Remembered told o (opened (r.force.message + 1)) (remembered LastLine m s)) (sym between) (closes told k)
 
-  few-octets : {r : Reached} {s : Section} {next : Order} {due : Due} {f : Force} {lines : List SubmessageLine} (m : Memory)
+  few_octets : {r : Reached} {s : Section} {next : Order} {due : Due} {f : Force} {lines : List SubmessageLine} (m : Memory)
       → DueOf r s next due f lines → length (text_of (due_entries file m due)) ≤ most_line
       → length (text_of (due_entries file m due)) ≤ most_line * length lines
   unfolding due_entries text_of
-  few-octets m (none fits) short = omega arith
-  few-octets m (one order fits) short = omega arith
-  few-octets m (last order between) short = omega arith
+  few_octets m (none fits) short = omega arith
+  few_octets m (one order fits) short = omega arith
+  few_octets m (last order between) short = omega arith
 
-  few-numbers : (due : Due) (m : Memory) (s : Section) (n : ℕ) → m.message ≤ n → m.submessage ≤ n
+  few_numbers : (due : Due) (m : Memory) (s : Section) (n : ℕ) → m.message ≤ n → m.submessage ≤ n
       → ((remembered due m s).message ≤ n + 1) × ((remembered due m s).submessage ≤ n + 1)
   unfolding remembered
-  few-numbers NoLine m s n p q = let same = memory-numbers m s in (omega (arith, same.0), omega (arith, same.1))
-  few-numbers Line m s n p q =
-      let same = memory-numbers (record { message = m.message; submessage = m.submessage + 1; zeroth = m.zeroth; fourth = m.fourth }) s in
+  few_numbers NoLine m s n p q = let same = memory_numbers m s in (omega (arith, same.0), omega (arith, same.1))
+  few_numbers Line m s n p q =
+      let same = memory_numbers (record { message = m.message; submessage = m.submessage + 1; zeroth = m.zeroth; fourth = m.fourth }) s in
       (omega (arith, same.0), omega (arith, same.1))
-  few-numbers LastLine m s n p q = (omega arith, omega arith)
+  few_numbers LastLine m s n p q = (omega arith, omega arith)
 
 -- in a turn
 pub record Listing (file text₀ : List ℕ) (at : Reading) (count : ℕ) (before : Listed) (m : Memory) (octets : ℕ) (text : List ℕ) : Type 0 where
@@ -247,51 +247,51 @@ module _ (file text₀ : List ℕ) (fits : length file ≤ most_octets) where
     over : {told : Told} {why : Refusal} {p : Place} {offset : Offset} → told.outcome ≡ Refused why p offset → Over told (Refused why p offset)
     over e = record { ends = e; no_lines = λ clean. absurd (unclean clean) }
 
-    pub by-seen : (v : Seen) → seen file at ≡ v → By file k.r at count before v
+    pub by_seen_lem : (v : Seen) → seen file at ≡ v → By file k.r at count before v
     unfolding stopped_by
-    by-seen (seen.Passes s next) e =
+    by_seen_lem (seen.Passes s next) e =
         let p = steps.passes file fits k.r at.cursor k.bounded (sees e) in
         record {
           step = p;
           due_of =
               subst (λ (o : Order). DueOf k.r s next.order (due_by (completes o s.number)) p.q.force p.lines) k.order
-              (passes_due p.moved (passes-fits file (reading at.cursor k.r.order) k.bounded.settled (sees e)));
+              (passes_due p.moved (passes_fits file (reading at.cursor k.r.order) k.bounded.settled (sees e)));
         }
-    by-seen (seen.Closes s next) e =
+    by_seen_lem (seen.Closes s next) e =
         let p = steps.closes file fits k.r at.cursor k.bounded (sees e) in
         let there = reading at.cursor k.r.order in
-        record { step = p; due_of = closes_due p.moved (closes-judged file there k.bounded.settled (sees e)) (closes-between file there (sees e)) }
-    by-seen (seen.Misplaced s) e = over ((steps.misplaced file fits k.r at.cursor k.bounded (sees e)).outcome ∙ rw k.counted)
-    by-seen (seen.NoGrid s) e = over ((steps.no_grid file fits k.r at.cursor k.bounded (sees e)).outcome ∙ rw k.counted)
-    by-seen seen.Clean e =
+        record { step = p; due_of = closes_due p.moved (closes_judged file there k.bounded.settled (sees e)) (closes_between file there (sees e)) }
+    by_seen_lem (seen.Misplaced s) e = over ((steps.misplaced file fits k.r at.cursor k.bounded (sees e)).outcome ∙ rw k.counted)
+    by_seen_lem (seen.NoGrid s) e = over ((steps.no_grid file fits k.r at.cursor k.bounded (sees e)).outcome ∙ rw k.counted)
+    by_seen_lem seen.Clean e =
         record {
           ends = (steps.clean file fits k.r at.cursor k.bounded (sees e)).outcome;
-          no_lines = λ c. steps.clean-lines file fits k.r at.cursor k.bounded (sees e);
+          no_lines = λ c. steps.clean_lines file fits k.r at.cursor k.bounded (sees e);
         }
-    by-seen seen.InputOver e = over ((steps.input-over file fits k.r at.cursor k.bounded (sees e)).outcome ∙ rw k.passed)
-    by-seen (seen.Unreadable fault offset) e = over ((steps.unreadable file fits k.r at.cursor k.bounded (sees e)).outcome ∙ rw k.counted)
+    by_seen_lem seen.InputOver e = over ((steps.input_over_lem file fits k.r at.cursor k.bounded (sees e)).outcome ∙ rw k.passed)
+    by_seen_lem (seen.Unreadable fault offset) e = over ((steps.unreadable file fits k.r at.cursor k.bounded (sees e)).outcome ∙ rw k.counted)
 
     -- what is seen is no section that passes or closes
     pub stops : (v : Seen) → seen file at ≡ v → OneOf (2 ∷ 3 ∷ 4 ∷ 5 ∷ 6 ∷ []) (tag_of the_type v)
         → Over (told_on file k.r at.cursor) (stopped_by v count before)
     stops (seen.Passes s next) e other = absurd (miss (2 ∷ 3 ∷ 4 ∷ 5 ∷ 6 ∷ []) 0 tt other)
     stops (seen.Closes s next) e other = absurd (miss (2 ∷ 3 ∷ 4 ∷ 5 ∷ 6 ∷ []) 1 tt other)
-    stops (seen.Misplaced s) e other = by-seen (seen.Misplaced s) e
-    stops (seen.NoGrid s) e other = by-seen (seen.NoGrid s) e
-    stops seen.Clean e other = by-seen seen.Clean e
-    stops seen.InputOver e other = by-seen seen.InputOver e
-    stops (seen.Unreadable fault offset) e other = by-seen (seen.Unreadable fault offset) e
+    stops (seen.Misplaced s) e other = by_seen_lem (seen.Misplaced s) e
+    stops (seen.NoGrid s) e other = by_seen_lem (seen.NoGrid s) e
+    stops seen.Clean e other = by_seen_lem seen.Clean e
+    stops seen.InputOver e other = by_seen_lem seen.InputOver e
+    stops (seen.Unreadable fault offset) e other = by_seen_lem (seen.Unreadable fault offset) e
 
     -- a section is passed
     module _ {s : Section} {next : Reading} {due : Due} (t : Turned file k.r at.cursor s next due) where
-      pub count-below : count < most_octets
-      count-below = let common = goes t.step.is_read in omega (arith, k.bounded.sections, k.counted)
+      pub count_below : count < most_octets
+      count_below = let common = goes t.step.is_read in omega (arith, k.bounded.sections, k.counted)
 
-      pub few-before : (m.message < most_octets) × (m.submessage < most_octets)
-      few-before = let low = count-below in (omega (arith, k.few.0), omega (arith, k.few.1))
+      pub few_before : (m.message < most_octets) × (m.submessage < most_octets)
+      few_before = let low = count_below in (omega (arith, k.few.0), omega (arith, k.few.1))
 
-      pub room-before : octets ≤ most_line * most_octets
-      room-before = omega (arith, k.short, k.bounded.lines, k.bounded.inside)
+      pub room_before : octets ≤ most_line * most_octets
+      room_before = omega (arith, k.short, k.bounded.lines, k.bounded.inside)
 
       pub nearer : length file - next.cursor.at.0 < length file - at.cursor.at.0
       nearer = let common = goes t.step.is_read in omega arith
@@ -299,21 +299,21 @@ module _ (file text₀ : List ℕ) (fits : length file ≤ most_octets) where
       here : stands_at k.r.sections (told file) ≡ s ∷ []
       here = ap (take 1) (k.rest ∙ t.step.sections)
 
-      text-due : text_of (entries_for file (told_on file k.r at.cursor).lines)
+      text_due : text_of (entries_for file (told_on file k.r at.cursor).lines)
           ≡ text_of (due_entries file m due) ++ text_of (entries_for file (told_on file t.step.q next.cursor).lines)
-      text-due =
+      text_due =
           let later = (told_on file t.step.q next.cursor).lines in
           ap (λ (l : List SubmessageLine). text_of (entries_for file l)) t.step.lines_told
           ∙ ap text_of (entries_append t.step.lines later (entry_at (decoded file (told file))))
           ∙ text_append (entries_for file t.step.lines) (entries_for file later)
-          ∙ ap (λ (l : List Entry). text_of l ++ text_of (entries_for file later)) (due-entries file t.due_of k.memory)
+          ∙ ap (λ (l : List Entry). text_of l ++ text_of (entries_for file later)) (due_entries_lem file t.due_of k.memory)
 
       pub turn : {octets' : ℕ} {text' : List ℕ} → PutText (text_of (due_entries file m due)) octets text text' octets'
           → Listing file text₀ next (count + 1) (record { place = place count; section = s }) (remembered due m s) octets' text'
       turn {octets'} {text'} put =
           let p = t.step in
           let due-text = text_of (due_entries file m due) in
-          let (behind, more) = next-told (told file) k.r.sections s (told_on file p.q next.cursor).sections (k.rest ∙ p.sections) in
+          let (behind, more) = next_told (told file) k.r.sections s (told_on file p.q next.cursor).sections (k.rest ∙ p.sections) in
           record {
             r = p.q;
             order = p.order;
@@ -324,18 +324,18 @@ module _ (file text₀ : List ℕ) (fits : length file ≤ most_octets) where
             rest = ap (λ (n : ℕ). drop n (told file)) p.placed ∙ more;
             memory =
                 subst (λ (o : Order). Remembered (told file) o p.q.force (remembered due m s)) (sym p.order)
-                (due-remembered file t.due_of k.memory here);
-            few = few-numbers file due m s count k.few.0 k.few.1;
+                (due_remembered file t.due_of k.memory here);
+            few = few_numbers file due m s count k.few.0 k.few.1;
             done = k.done ++ due-text;
-            whole = k.whole ∙ ap (λ (l : List ℕ). k.done ++ l) text-due ∙ sym (append_assoc k.done due-text _);
+            whole = k.whole ∙ ap (λ (l : List ℕ). k.done ++ l) text_due ∙ sym (append_assoc k.done due-text _);
             measured = put.measured ∙ ap (λ (n : ℕ). n + length due-text) k.measured ∙ sym (length-append k.done due-text);
-            short = let few = few-octets file m t.due_of put.short in omega (arith, k.short, p.lined, put.measured);
+            short = let few = few_octets file m t.due_of put.short in omega (arith, k.short, p.lined, put.measured);
             same_length = put.same_length ∙ k.same_length;
-            written = λ room. written-now room;
+            written = λ room. written_now room;
           }
         where
-          written-now : octets' ≤ length text₀ → text' ≡ put_in_text text₀ 0 (k.done ++ text_of (due_entries file m due))
-          written-now room =
+          written_now : octets' ≤ length text₀ → text' ≡ put_in_text text₀ 0 (k.done ++ text_of (due_entries file m due))
+          written_now room =
               let due-text = text_of (due_entries file m due) in
               put.put (omega (arith, k.same_length))
               ∙ ap₂ (λ (l : List ℕ) (n : ℕ). put_in_text l n due-text) (k.written (omega (arith, put.measured))) k.measured

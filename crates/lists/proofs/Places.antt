@@ -49,31 +49,31 @@ inside_of octet (first ∷ more) (suc at) e = let later = inside_of octet more a
 -- digits at a place: at the text's end; an octet that is no digit, which closes them or does not; a
 -- digit too many; one more
 module _ (most close value : ℕ) (text : List ℕ) (at : ℕ) where
-  pub digits-behind : length text ≤ at → take_digits most close value (drop at text) ≡ not_taken
+  pub digits_behind : length text ≤ at → take_digits most close value (drop at text) ≡ not_taken
   unfolding take_digits
-  digits-behind behind = rw (drop_of_length-le text behind)
+  digits_behind behind = rw (drop_of_length-le text behind)
 
   module _ (inside : at < length text) where
-    pub digits-closed : is_digit (get_or text at 0) ≡ false → get_or text at 0 ≡ close
+    pub digits_closed : is_digit (get_or text at 0) ≡ false → get_or text at 0 ≡ close
         → take_digits most close value (drop at text) ≡ taken value (drop (at + 1) text)
     unfolding take_digits
-    digits-closed no_digit e = rw (drop_next text at inside, no_digit, eq-eqb _ _ e)
+    digits_closed no_digit e = rw (drop_next text at inside, no_digit, eq-eqb _ _ e)
 
-    pub digits-not-closed : is_digit (get_or text at 0) ≡ false → (get_or text at 0 ≡ close → ⊥)
+    pub digits_not_closed : is_digit (get_or text at 0) ≡ false → (get_or text at 0 ≡ close → ⊥)
         → take_digits most close value (drop at text) ≡ not_taken
     unfolding take_digits
-    digits-not-closed no_digit other = rw (drop_next text at inside, no_digit, ne_eqb _ _ other)
+    digits_not_closed no_digit other = rw (drop_next text at inside, no_digit, ne_eqb _ _ other)
 
-    pub digits-too-many : is_digit (get_or text at 0) ≡ true → most < value * 10 + (get_or text at 0 - 48)
+    pub digits_too_many : is_digit (get_or text at 0) ≡ true → most < value * 10 + (get_or text at 0 - 48)
         → take_digits most close value (drop at text) ≡ not_taken
     unfolding take_digits
-    digits-too-many is_digit over = rw (drop_next text at inside, is_digit, lt-ltb _ _ over)
+    digits_too_many is_digit over = rw (drop_next text at inside, is_digit, lt-ltb _ _ over)
 
-    pub digits-further : is_digit (get_or text at 0) ≡ true → value * 10 + (get_or text at 0 - 48) ≤ most
+    pub digits_further : is_digit (get_or text at 0) ≡ true → value * 10 + (get_or text at 0 - 48) ≤ most
         → take_digits most close value (drop at text)
         ≡ take_digits most close (value * 10 + (get_or text at 0 - 48)) (drop (at + 1) text)
     unfolding take_digits
-    digits-further is_digit under = rw (drop_next text at inside, is_digit, le-ltb _ _ under)
+    digits_further is_digit under = rw (drop_next text at inside, is_digit, le-ltb _ _ under)
 
 -- a digit's code
 pub digit_low : (octet : ℕ) → is_digit octet ≡ true → 48 ≤ octet
@@ -95,24 +95,24 @@ module _ (most close : ℕ) (text : List ℕ) (at : ℕ) where
   number_behind behind = rw (drop_of_length-le text behind)
 
   module _ (inside : at < length text) where
-    pub number-zero : get_or text at 0 ≡ 48 → next_is close (drop (at + 1) text) ≡ true
+    pub number_zero : get_or text at 0 ≡ 48 → next_is close (drop (at + 1) text) ≡ true
         → take_number most close (drop at text) ≡ taken 0 (drop (at + 2) text)
     unfolding take_number
-    number-zero zero-first closed =
+    number_zero zero-first closed =
         let two : at + 1 + 1 ≡ at + 2 = omega arith in
         rw (drop_next text at inside, eq-eqb _ _ zero-first, closed)
         (ap (taken 0) (drop-drop 1 (at + 1) text ∙ ap (λ (k : ℕ). drop k text) two))
 
-    pub number-zero-goes-on : get_or text at 0 ≡ 48 → next_is close (drop (at + 1) text) ≡ false
+    pub number_zero_goes_on : get_or text at 0 ≡ 48 → next_is close (drop (at + 1) text) ≡ false
         → take_number most close (drop at text) ≡ not_taken
     unfolding take_number
-    number-zero-goes-on zero-first not-closed =
+    number_zero_goes_on zero-first not-closed =
         rw (drop_next text at inside, eq-eqb _ _ zero-first, not-closed)
 
-    pub number-no-digit : (get_or text at 0 ≡ 48 → ⊥) → is_digit (get_or text at 0) ≡ false
+    pub number_no_digit : (get_or text at 0 ≡ 48 → ⊥) → is_digit (get_or text at 0) ≡ false
         → take_number most close (drop at text) ≡ not_taken
     unfolding take_number
-    number-no-digit other no_digit =
+    number_no_digit other no_digit =
         rw (drop_next text at inside, ne_eqb _ _ other, no_digit)
 
     pub number_digits : (get_or text at 0 ≡ 48 → ⊥) → is_digit (get_or text at 0) ≡ true
@@ -131,29 +131,29 @@ module _ (close : ℕ) (text : List ℕ) (at : ℕ) where
   unfolding none_next
   none_is = simp drop-drop
 
-  pub none-not-1 : next_is 110 (drop at text) ≡ false → none_next close (drop at text) ≡ false
-  none-not-1 p = rw (none_is, p)
+  pub none_not_1 : next_is 110 (drop at text) ≡ false → none_next close (drop at text) ≡ false
+  none_not_1 p = rw (none_is, p)
 
   module _ (first : next_is 110 (drop at text) ≡ true) where
-    pub none-not-2 : next_is 111 (drop (at + 1) text) ≡ false → none_next close (drop at text) ≡ false
-    none-not-2 p = rw (none_is, first, p)
+    pub none_not_2 : next_is 111 (drop (at + 1) text) ≡ false → none_next close (drop at text) ≡ false
+    none_not_2 p = rw (none_is, first, p)
 
     module _ (second : next_is 111 (drop (at + 1) text) ≡ true) where
-      pub none-not-3 : next_is 110 (drop (at + 2) text) ≡ false
+      pub none_not_3 : next_is 110 (drop (at + 2) text) ≡ false
           → none_next close (drop at text) ≡ false
-      none-not-3 p = rw (none_is, first, second, p)
+      none_not_3 p = rw (none_is, first, second, p)
 
       module _ (third : next_is 110 (drop (at + 2) text) ≡ true) where
-        pub none-not-4 : next_is 101 (drop (at + 3) text) ≡ false
+        pub none_not_4 : next_is 101 (drop (at + 3) text) ≡ false
             → none_next close (drop at text) ≡ false
-        none-not-4 p = rw (none_is, first, second, third, p)
+        none_not_4 p = rw (none_is, first, second, third, p)
 
-        pub none-closed : next_is 101 (drop (at + 3) text) ≡ true
+        pub none_closed : next_is 101 (drop (at + 3) text) ≡ true
             → none_next close (drop at text) ≡ next_is close (drop (at + 4) text)
-        none-closed p = rw (none_is, first, second, third, p)
+        none_closed p = rw (none_is, first, second, third, p)
 
-  pub none-room : none_next close (drop at text) ≡ true → at + 5 ≤ length text
-  none-room e =
+  pub none_room : none_next close (drop at text) ≡ true → at + 5 ≤ length text
+  none_room e =
       let first = and_both (next_is 110 (drop at text)) _ (sym none_is ∙ e) in
       let second = and_both (next_is 111 (drop (at + 1) text)) _ first.1 in
       let third = and_both (next_is 110 (drop (at + 2) text)) _ second.1 in

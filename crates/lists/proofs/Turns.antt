@@ -72,8 +72,8 @@ module _ {text before table : List ℕ} {read at : ℕ} (going : Going text befo
   numbers : length (list_numbers going.done) ≡ read * 13
   numbers = numbers_length going.done ∙ ap (λ (k : ℕ). k * 13) going.count
 
-  pub same-room : length table ≡ length before
-  same-room =
+  pub same_room : length table ≡ length before
+  same_room =
       let within = going.within in
       ap (λ (l : List ℕ). length l) going.stored
       ∙ length-append (list_numbers going.done) (drop (read * 13) before)

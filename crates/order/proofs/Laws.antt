@@ -124,30 +124,30 @@ not_between order inside = go (is_between order) (said order) refl
 
 module _ (order : Order) (number : ℕ) where
   -- which number led to the next state
-  pub fits-number : {next : Order} → judged order number ≡ Fits next → ReachedBy next number
-  fits-number e = subst (Says order number) e (says order number)
+  pub fits_number : {next : Order} → judged order number ≡ Fits next → ReachedBy next number
+  fits_number e = subst (Says order number) e (says order number)
 
   pub fits_below : {next : Order} → judged order number ≡ Fits next → number < 8
-  fits_below {next} e = (inside next number (fits-number e)).1
+  fits_below {next} e = (inside next number (fits_number e)).1
 
-  pub fits-open : {next : Order} → judged order number ≡ Fits next → is_between next ≡ false
-  fits-open {next} e = (inside next number (fits-number e)).0
+  pub fits_open : {next : Order} → judged order number ≡ Fits next → is_between next ≡ false
+  fits_open {next} e = (inside next number (fits_number e)).0
 
   -- only an 8 after 7 closes
-  pub closes-only : judged order number ≡ Closes → (order ≡ AfterData) × (number ≡ 8)
-  closes-only e = subst (Says order number) e (says order number)
+  pub closes_only : judged order number ≡ Closes → (order ≡ AfterData) × (number ≡ 8)
+  closes_only e = subst (Says order number) e (says order number)
 
-  pub closes-there : (order ≡ AfterData) × (number ≡ 8) → judged order number ≡ Closes
+  pub closes_there : (order ≡ AfterData) × (number ≡ 8) → judged order number ≡ Closes
   unfolding judged
-  closes-there e = rw (e.0, e.1)
+  closes_there e = rw (e.0, e.1)
 
   -- only a 4 right after 1 has no grid
-  pub no-grid-only : judged order number ≡ NoGrid → (order ≡ AfterIdentification) × (number ≡ 4)
-  no-grid-only e = subst (Says order number) e (says order number)
+  pub no_grid_only : judged order number ≡ NoGrid → (order ≡ AfterIdentification) × (number ≡ 4)
+  no_grid_only e = subst (Says order number) e (says order number)
 
-  pub no-grid-there : (order ≡ AfterIdentification) × (number ≡ 4) → judged order number ≡ NoGrid
+  pub no_grid_there_lem : (order ≡ AfterIdentification) × (number ≡ 4) → judged order number ≡ NoGrid
   unfolding judged
-  no-grid-there e = rw (e.0, e.1)
+  no_grid_there_lem e = rw (e.0, e.1)
 
 -- what is read from a file, if that is a section 0 between messages, is judged unasked as it is judged
 pub read_judged : (order : Order) (number : ℕ) → (is_between order ≡ true → number ≡ 0) → judged_read order number ≡ judged order number
@@ -184,11 +184,11 @@ pub completes_only : (order : Order) (number : ℕ) → completes order number �
 completes_only order number e = subst (Completed order number) e (completed order number)
 
 module _ (number : ℕ) (other : number ≡ 8 → ⊥) where
-  pub completes-there : completes AfterData number ≡ true
+  pub completes_there : completes AfterData number ≡ true
   unfolding completes
-  completes-there = simp (ne_eqb number 8 other)
+  completes_there = simp (ne_eqb number 8 other)
 
   -- what completes a submessage is judged as the start of the next
-  pub starts-next : judged AfterData number ≡ judged SubmessageStart number
+  pub starts_next : judged AfterData number ≡ judged SubmessageStart number
   unfolding judged
-  starts-next = simp (ne_eqb number 8 other)
+  starts_next = simp (ne_eqb number 8 other)

@@ -118,9 +118,9 @@ by_the_table reading n = ap (by_reading reading n) (side (ltb n 1102) refl)
 pub product_by_the_table : (reading : TemplateReading) (s : List ℕ)
     → product_by rows reading s ≡ product_of reading s
 unfolding product_by product_of process_of forecast_of fixed_of
-product_by_the_table reading s = by-template (supported_of s) refl
+product_by_the_table reading s = by_template_lem (supported_of s) refl
   where
-    by-template : (t : Supported) → supported_of s ≡ t
+    by_template_lem : (t : Supported) → supported_of s ≡ t
         → product_by rows reading s ≡ product_of reading s
-    by-template (Template n) e = rw (e, by_the_table reading n)
-    by-template NoTemplate e = rw e
+    by_template_lem (Template n) e = rw (e, by_the_table reading n)
+    by_template_lem NoTemplate e = rw e

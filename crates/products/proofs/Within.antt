@@ -62,43 +62,43 @@ module _ {A : Type 0} (In : A → Type 0) {none : A} (fine : In none) {f : ℕ �
   at_index n (At i) = so n (drop i (drop 4 s)) (octets_drop i (drop 4 s) (octets_drop 4 s octets))
   at_index n Absent = fine
 
-  by-template : (index : ℕ → Index) (t : Supported)
+  by_template_lem : (index : ℕ → Index) (t : Supported)
       → In (by_template none (λ n. by_index none (f n) s (index n)) t)
-  by-template index (Template n) = at_index n (index n)
-  by-template index NoTemplate = fine
+  by_template_lem index (Template n) = at_index n (index n)
+  by_template_lem index NoTemplate = fine
 
 module _ (In : MaybeOctet → Type 0) (fine : In NoOctet)
     (octet : (n : ℕ) → n ≤ 255 → In (Octet n)) where
-  octet-within : (s : List ℕ) → Octets s → In (octet_of s)
+  octet_within : (s : List ℕ) → Octets s → In (octet_of s)
   unfolding octet_of
-  octet-within s octets = either In (ltb (length s) 1) fine (octet (get_or s 0 0) (octets 0))
+  octet_within s octets = either In (ltb (length s) 1) fine (octet (get_or s 0 0) (octets 0))
 
-  pub category-within : (s : List ℕ) → Octets s → In (category_of s)
+  pub category_within : (s : List ℕ) → Octets s → In (category_of s)
   unfolding category_of
-  category-within s octets =
-      by-template In fine (λ n. octet-within) s octets (λ n. At 0) (supported_of s)
+  category_within s octets =
+      by_template_lem In fine (λ n. octet_within) s octets (λ n. At 0) (supported_of s)
 
-  pub parameter-within : (s : List ℕ) → Octets s → In (parameter_of s)
+  pub parameter_within : (s : List ℕ) → Octets s → In (parameter_of s)
   unfolding parameter_of
-  parameter-within s octets =
-      by-template In fine (λ n. octet-within) s octets (λ n. At 1) (supported_of s)
+  parameter_within s octets =
+      by_template_lem In fine (λ n. octet_within) s octets (λ n. At 1) (supported_of s)
 
 module _ (In : MaybeTime → Type 0) (fine : In NoTime)
     (time : (t : ForecastTime) → t.unit ≤ 255 → t.time ≤ 4294967295 → In (Time t)) where
-  time-within : (width : TimeOctets) (s : List ℕ) → Octets s → In (time_of width s)
+  time_within : (width : TimeOctets) (s : List ℕ) → Octets s → In (time_of width s)
   unfolding time_of octets_in
-  time-within Two s octets =
+  time_within Two s octets =
       either In (ltb (length s) 3) fine
       (time _ (octets 0) (omega (arith, be_lt s 1 (λ i. omega (arith, octets i)) 2)))
-  time-within Four s octets =
+  time_within Four s octets =
       either In (ltb (length s) 5) fine
       (time _ (octets 0) (omega (arith, be_lt s 1 (λ i. omega (arith, octets i)) 4)))
 
-  pub forecast-within : (reading : TemplateReading) (s : List ℕ) → Octets s
+  pub forecast_within : (reading : TemplateReading) (s : List ℕ) → Octets s
       → In (forecast_of reading s)
   unfolding forecast_of
-  forecast-within reading s octets =
-      by-template In fine (λ n. time-within (offsets_of reading n).width) s octets
+  forecast_within reading s octets =
+      by_template_lem In fine (λ n. time_within (offsets_of reading n).width) s octets
       (λ n. (offsets_of reading n).time) (supported_of s)
 
 -- one surface
@@ -109,19 +109,19 @@ Within NoSurface = Unit
 surface_within : (s : List ℕ) → Octets s → Within (surface_of s)
 unfolding surface_of
 surface_within s octets =
-    by-signs (signed_of (take 1 (drop 1 s))) (signed_of (take 4 (drop 2 s))) refl refl
+    by_signs (signed_of (take 1 (drop 1 s))) (signed_of (take 4 (drop 2 s))) refl refl
   where
-    by-signs : (f v : Signed) → signed_of (take 1 (drop 1 s)) ≡ f → signed_of (take 4 (drop 2 s)) ≡ v
+    by_signs : (f v : Signed) → signed_of (take 1 (drop 1 s)) ≡ f → signed_of (take 4 (drop 2 s)) ≡ v
         → Within (surface_of s)
-    by-signs (Number f) (Number v) p q = rw (p, q) (either Within (ltb (length s) 6) tt (octets 0))
-    by-signs (Number f) NoNumber p q = rw (p, q) (either Within (ltb (length s) 6) tt tt)
-    by-signs NoNumber v p q = rw p (either Within (ltb (length s) 6) tt tt)
+    by_signs (Number f) (Number v) p q = rw (p, q) (either Within (ltb (length s) 6) tt (octets 0))
+    by_signs (Number f) NoNumber p q = rw (p, q) (either Within (ltb (length s) 6) tt tt)
+    by_signs NoNumber v p q = rw p (either Within (ltb (length s) 6) tt tt)
 
 module _ (In : MaybeSurfaces → Type 0) (fine : In NoSurfaces)
     (pair : (a b : FixedSurface) → a.surface ≤ 255 → In (Both a b)) where
-  surfaces-within : (s : List ℕ) → Octets s → In (surfaces_of s)
+  surfaces_within : (s : List ℕ) → Octets s → In (surfaces_of s)
   unfolding surfaces_of
-  surfaces-within s octets = by_both (surface_of s) (surface_of (drop 6 s)) refl refl
+  surfaces_within s octets = by_both (surface_of s) (surface_of (drop 6 s)) refl refl
     where
       by_both : (a b : MaybeSurface) → surface_of s ≡ a → surface_of (drop 6 s) ≡ b
           → In (surfaces_of s)
@@ -130,8 +130,8 @@ module _ (In : MaybeSurfaces → Type 0) (fine : In NoSurfaces)
       by_both (Surface a) NoSurface p q = rw (p, q) fine
       by_both NoSurface b p q = rw p fine
 
-  pub fixed-within : (reading : TemplateReading) (s : List ℕ) → Octets s → In (fixed_of reading s)
+  pub fixed_within : (reading : TemplateReading) (s : List ℕ) → Octets s → In (fixed_of reading s)
   unfolding fixed_of
-  fixed-within reading s octets =
-      by-template In fine (λ n. surfaces-within) s octets (λ n. (offsets_of reading n).surfaces)
+  fixed_within reading s octets =
+      by_template_lem In fine (λ n. surfaces_within) s octets (λ n. (offsets_of reading n).surfaces)
       (supported_of s)

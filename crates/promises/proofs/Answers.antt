@@ -64,7 +64,7 @@ use Rattle.promises.proofs.Called.{
   to_write,
   by,
 }
-use Rattle.promises.proofs.NextCalled.{next-can-be-called}
+use Rattle.promises.proofs.NextCalled.{next_can_be_called}
 use Rattle.promises.proofs.Told.{both, three, promised}
 
 -- what is passed by value, and what stands in lent slices
@@ -152,8 +152,8 @@ one_turn : {answer one : Pulled} {file held : Bor (List ℕ)} {progress next : P
 one_turn a h p = rw (a, h, p)
 
 module _ {M : Type 1} where
-  public-functions : PublicFunctions M
-  public-functions = record {
+  public_functions : PublicFunctions M
+  public_functions = record {
     octets_be16 = by 0 (by_value (plain_array _ 2 (plain_number w8)) ∷ []) (λ n. refl)
         (λ 𝓤 𝓛 content run κs a. tt) octets.be16.Met.met (λ n r e. id⊢ n.memory _);
     octets_be32 = by 0 (by_value (plain_array _ 4 (plain_number w8)) ∷ []) (λ n. refl)
@@ -275,7 +275,7 @@ module _ {M : Type 1} where
         pull.new.Met.met (λ n r e. fact_mono n.memory _ _ (λ h. one_reader h.0 h.1));
     pull_new_holds = λ n r e. fact_mono n.memory _ _ (λ h. h.0);
     pull-Reader_next =
-        promised (λ n. refl) (next-can-be-called (number w8, (plain-Progress, tt)))
+        promised (λ n. refl) (next_can_be_called (number w8, (plain-Progress, tt)))
         pull.Reader.next.Met.met
         (λ n r e. fact_mono n.memory _ _ (λ h. one_turn h.0 h.1.0 h.1.1));
     pull-Reader_next_keeps = λ n r e. fact_mono n.memory _ _ (λ h. h.1.0);
@@ -350,4 +350,4 @@ module _ {M : Type 1} where
   }
 
 pub each_gives_its_definition : EachGivesItsDefinition
-each_gives_its_definition M = public-functions
+each_gives_its_definition M = public_functions

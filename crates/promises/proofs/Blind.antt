@@ -105,28 +105,28 @@ shown reading of_none = no_face
 
 module _ (reading : ℕ) where
   -- by a test, on either side
-  shown-pick : (t : Bool) (a b : SectionFields) (c d : FaceFields)
+  shown_pick : (t : Bool) (a b : SectionFields) (c d : FaceFields)
       → c ≡ shown reading a → d ≡ shown reading b → pick t c d ≡ shown reading (pick t a b)
-  shown-pick true a b c d e f = e
-  shown-pick false a b c d e f = f
+  shown_pick true a b c d e f = e
+  shown_pick false a b c d e f = f
 
   shows : (file : List ℕ) (s : Section) → face_of reading file s ≡ shown reading (fields_of file s)
   unfolding face_of fields_of product_section_of product_fields when_where_fields when_where_of product_of
   shows file s =
-      shown-pick (eqb s.number 0) _ _ _ _ refl (shown-pick (eqb s.number 1) _ _ _ _ refl
-      (shown-pick (eqb s.number 3) _ _ _ _ refl (shown-pick (eqb s.number 4) _ _ _ _ refl
-      (shown-pick (eqb s.number 5) _ _ _ _ refl
-      (shown-pick (eqb s.number 6) _ _ _ _ refl refl)))))
+      shown_pick (eqb s.number 0) _ _ _ _ refl (shown_pick (eqb s.number 1) _ _ _ _ refl
+      (shown_pick (eqb s.number 3) _ _ _ _ refl (shown_pick (eqb s.number 4) _ _ _ _ refl
+      (shown_pick (eqb s.number 5) _ _ _ _ refl
+      (shown_pick (eqb s.number 6) _ _ _ _ refl refl)))))
 
-  all-show : (file : List ℕ) (sections : List Section)
+  all_show : (file : List ℕ) (sections : List Section)
       → map (face_of reading file) sections ≡ map (shown reading) (decoded file sections)
   unfolding decoded
-  all-show file [] = refl
-  all-show file (s ∷ more) = rw (shows file s, all-show file more) refl
+  all_show file [] = refl
+  all_show file (s ∷ more) = rw (shows file s, all_show file more) refl
 
 pub equal_faces : (f g : List ℕ) → Alike licensed f g → (reading : ℕ)
     → faces_of reading f ≡ faces_of reading g
 equal_faces f g d reading =
-    all-show reading f (walked unlimited f).sections
+    all_show reading f (walked unlimited f).sections
     ∙ ap (map (shown reading)) ((one f g d).one_decoding unlimited)
-    ∙ sym (all-show reading g (walked unlimited g).sections)
+    ∙ sym (all_show reading g (walked unlimited g).sections)

@@ -181,8 +181,8 @@ module _ {M : Type 1} {𝓤 : Ura M} (𝓛 : Logic 𝓤) (𝓜 : Model 𝓤 𝓛
   whole_cells R (x ∷ xs) b o = mono_r 𝓤 ⟦ part_at R full_share x b o ⟧ (whole_cells R xs b _)
 
   -- a ghost update that makes something under a name is run
-  pub under-name : (σ : Memory) (P F : Pr) (Q L : GName → Pr) → P ⊢ H.⇛ (ex 𝓤 (λ (γ : GName). Q γ ∗ L γ)) → Sat σ (P ∗ F) → ∥ ((γ : GName) × Sat σ (Q γ ∗ F)) ∥₁
-  under-name σ P F Q L h s =
+  pub under_name : (σ : Memory) (P F : Pr) (Q L : GName → Pr) → P ⊢ H.⇛ (ex 𝓤 (λ (γ : GName). Q γ ∗ L γ)) → Sat σ (P ∗ F) → ∥ ((γ : GName) × Sat σ (Q γ ∗ F)) ∥₁
+  under_name σ P F Q L h s =
       ∥∥₁_map (sat_ex∗ 𝓤 H 𝓜 σ (λ (γ : GName). Q γ ∗ L γ) F (sat_⇛ 𝓤 H 𝓜 σ (ex 𝓤 (λ (γ : GName). Q γ ∗ L γ)) F (sat_weaken 𝓤 H 𝓜 σ (mono_l 𝓤 F h) s)))
       (λ r. (r.0, sat_weaken 𝓤 H 𝓜 σ (mono_l 𝓤 F (fst∗ 𝓤 (Q r.0) (L r.0))) r.1))
 
@@ -208,14 +208,14 @@ module _ {M : Type 1} {𝓤 : Ura M} (𝓛 : Logic 𝓤) (𝓜 : Model 𝓤 𝓛
         let κ = lft_at n j ok κs in
         ∥∥₁_elim (laid R E xs may.1 σ F s) ∥∥₁_prop λ r.
         let b = r.1 in
-        ∥∥₁_map (under-name r.0 (Lies R xs b) F (λ γ. ⟦ (ShrSlice (named j) κ R).own_val (record { ptr = (b, zero); name = γ; now = xs }) (slice_val (b, zero) (length xs) ∷ []) ⟧)
+        ∥∥₁_map (under_name r.0 (Lies R xs b) F (λ γ. ⟦ (ShrSlice (named j) κ R).own_val (record { ptr = (b, zero); name = γ; now = xs }) (slice_val (b, zero) (length xs) ∷ []) ⟧)
         (λ γ. 𝓛.A.lent κ ((arr_parts (shares R) (length xs)).part full_share xs b zero)) (lends_shr_slice 𝓛 R (named j) κ full_share xs b zero may.0) r.2) λ g.
         record { memory = r.0; argument = record { ref_ptr = (b, zero); ghost_name = g.0; now = xs }; values = slice_val (b, zero) (length xs) ∷ []; is = refl; holds = g.1 }
     passed (lent_mut j ok R) E xs may σ F s =
         let κ = lft_at n j ok κs in
         ∥∥₁_elim (laid R E xs may.1 σ F s) ∥∥₁_prop λ r.
         let b = r.1 in
-        ∥∥₁_map (under-name r.0 (Lies R xs b) F (λ γ. ⟦ (MutSlice (named j) κ R).own_val (record { ptr = (b, zero); name = γ; now = xs }) (slice_val (b, zero) (length xs) ∷ []) ⟧)
+        ∥∥₁_map (under_name r.0 (Lies R xs b) F (λ γ. ⟦ (MutSlice (named j) κ R).own_val (record { ptr = (b, zero); name = γ; now = xs }) (slice_val (b, zero) (length xs) ∷ []) ⟧)
         (λ γ. 𝓛.A.lent κ (Held R (length xs) b zero γ))
         (via 𝓤 ⟦ cells (mem R) xs b zero ⟧ (via 𝓤 ⟦ parts (mem R) (shares R) full_share xs b zero ⟧ (snd∗ 𝓤 ⟦ feq ℕ (length xs) (length xs) ⟧ ⟦ parts (mem R) (shares R) full_share xs b zero ⟧) (whole_cells R xs b zero))
         (lends_slice 𝓛 R (named j) κ xs b zero may.0)) r.2) λ g.
@@ -228,10 +228,10 @@ module _ {M : Type 1} {𝓤 : Ura M} (𝓛 : Logic 𝓤) (𝓜 : Model 𝓤 𝓛
       pub are : contents_of ps κs arguments ≡ xs
       pub hold : Sat memory (⟦ owns (types_at (slots_of ps) κs) arguments values ⟧ ∗ F)
 
-    pub all-passed : (ps : List (Parameter n)) → KnownAll ps → (xs : Contents ps) → MayPassAll ps xs → (σ : Memory) (F : Pr) → Sat σ F → ∥ AllPassed ps xs F ∥₁
-    all-passed [] Es xs may σ F s = ∣ record { memory = σ; arguments = tt; values = tt; are = refl; hold = beside σ (emp 𝓤) F (id⊢ 𝓤 (emp 𝓤)) s } ∣₁
-    all-passed (p ∷ ps) Es xs may σ F s =
-        ∥∥₁_elim (all-passed ps Es.1 xs.1 may.1 σ F s) ∥∥₁_prop λ r.
+    pub all_passed : (ps : List (Parameter n)) → KnownAll ps → (xs : Contents ps) → MayPassAll ps xs → (σ : Memory) (F : Pr) → Sat σ F → ∥ AllPassed ps xs F ∥₁
+    all_passed [] Es xs may σ F s = ∣ record { memory = σ; arguments = tt; values = tt; are = refl; hold = beside σ (emp 𝓤) F (id⊢ 𝓤 (emp 𝓤)) s } ∣₁
+    all_passed (p ∷ ps) Es xs may σ F s =
+        ∥∥₁_elim (all_passed ps Es.1 xs.1 may.1 σ F s) ∥∥₁_prop λ r.
         let rest : Pr = ⟦ owns (types_at (slots_of ps) κs) r.arguments r.values ⟧ in
         ∥∥₁_map (passed p Es.0 xs.0 may.0 r.memory (rest ∗ F) r.hold) λ q.
         record {
@@ -260,15 +260,15 @@ module _ {M : Type 1} {𝓤 : Ura M} (𝓛 : Logic 𝓤) (𝓜 : Model 𝓤 𝓛
 
 -- so every function of such parameters, whose contract asks for nothing, can be called
 module _ {M : Type 1} {n : ℕ} (ps : List (Parameter n)) (Es : KnownAll ps) {result : Slot n} where
-  pub can-be-called : (c : Contract M (function_of ps result)) → AsksNothing M (function_of ps result) c
+  pub can_be_called : (c : Contract M (function_of ps result)) → AsksNothing M (function_of ps result) c
       → ((𝓤 : Ura M) (𝓛 : Logic 𝓤) (content : Memory → SProp 𝓤) (run : Routine → Fun 𝓤) (κs : Lfts n) (a : Denots (types_at (slots_of ps) κs)) → (c 𝓤 𝓛 content run κs a).ghost)
       → CanBeCalled M (function_of ps result) c (contents_of ps) (MayPassAll ps)
-  can-be-called c nothing any contents may 𝓤 𝓛 𝓜 𝓡 =
+  can_be_called c nothing any contents may 𝓤 𝓛 𝓜 𝓡 =
       let A = 𝓛.A in
       ∥∥₁_elim (started 𝓛 𝓜 n) ∥∥₁_prop λ k.
       let κs = k.1 in
       let tokens : SProp 𝓤 = toks 𝓛 n κs (whole n) in
-      ∥∥₁_map (all-passed 𝓛 𝓜 κs ps Es contents may k.0 (sep 𝓤 tokens (emp 𝓤)) k.2) λ r.
+      ∥∥₁_map (all_passed 𝓛 𝓜 κs ps Es contents may k.0 (sep 𝓤 tokens (emp 𝓤)) k.2) λ r.
       let own : SProp 𝓤 = sem 𝓛 (owns (types_at (slots_of ps) κs) r.arguments r.values) in
       let ghost = any 𝓤 𝓛 𝓜.mem 𝓡.run κs r.arguments in
       let asks : asked M (function_of ps result) c _ ≡ emp 𝓤 = nothing (record { memory = 𝓤; heap = 𝓛.H; atoms = A; content = 𝓜.mem; run = 𝓡.run; lifetimes = κs; arguments = r.arguments; ghost = ghost }) in
@@ -276,7 +276,7 @@ module _ {M : Type 1} {n : ℕ} (ps : List (Parameter n)) (Es : KnownAll ps) {re
         memory = r.memory;
         bound = (κs, whole n, tt, r.arguments, r.values);
         ghost = ghost;
-        is-taken = r.are;
+        is_taken = r.are;
         enters = subst (λ (P : SProp 𝓤). Satisfies 𝓤 𝓛.H 𝓜 r.memory (sep 𝓤 (sep 𝓤 tokens own) P)) (sym asks)
             (sat_weaken 𝓤 𝓛.H 𝓜 r.memory (via 𝓤 (sep 𝓤 (sep 𝓤 own tokens) (emp 𝓤)) (assoc' 𝓤 own tokens (emp 𝓤)) (mono_l 𝓤 (emp 𝓤) (comm∗ 𝓤 own tokens))) r.hold);
       }
@@ -309,4 +309,4 @@ module _ {M : Type 1} (n : ℕ) (gs : List (Given n)) {result : Slot n} {c : Con
       → ((𝓤 : Ura M) (𝓛 : Logic 𝓤) (content : Memory → SProp 𝓤) (run : Routine → Fun 𝓤) (κs : Lfts n) (a : Denots (types_at (slots_of (parameters_of gs)) κs)) → (c 𝓤 𝓛 content run κs a).ghost)
       → Answers M (function_of (parameters_of gs) result) c routine → SeenIs M (function_of (parameters_of gs) result) c (contents_of (parameters_of gs)) seen definition
       → Promised M (function_of (parameters_of gs) result) c routine (contents_of (parameters_of gs)) (MayPassAll (parameters_of gs)) seen definition
-  by nothing any met says = promised nothing (can-be-called (parameters_of gs) (known_of gs) c nothing any) met says
+  by nothing any met says = promised nothing (can_be_called (parameters_of gs) (known_of gs) c nothing any) met says

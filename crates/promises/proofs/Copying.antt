@@ -21,7 +21,7 @@ use Rattle.publish.specs.End.{copy_end}
 use Rattle.publish.proofs.Runs.{split}
 use Rattle.walk_laws.specs.ExactlyWhen.{TooLong, NotTooLong, EndsClean, between}
 use Rattle.walk_laws.proofs.WholeWalk.{from_1, is_clean, walk_refused_exactly_when, walk_clean_exactly_when}
-use Rattle.blindness.proofs.Copies.{length-copy}
+use Rattle.blindness.proofs.Copies.{length_copy}
 use Rattle.promises.specs.CopyGiven.{
   CopyGiven,
   copy_too_long,
@@ -46,46 +46,46 @@ module _ (file dest : List ℕ) where
   answers = copy_end (copy_of licensed file dest).answer
 
   -- a file that is too long
-  when-long : TooLong file → answers ≡ refusing 1 0 0 0
+  when_long : TooLong file → answers ≡ refusing 1 0 0 0
   unfolding copy_of copy_end unplaced
-  when-long long = rw (lt-ltb 1099511627776 (length file) long)
+  when_long long = rw (lt-ltb 1099511627776 (length file) long)
 
   -- a destination that is too short
-  when-short : NotTooLong file → length dest < length file → answers ≡ refusing 19 0 0 0
+  when_short : NotTooLong file → length dest < length file → answers ≡ refusing 19 0 0 0
   unfolding copy_of copy_end unplaced
-  when-short short less = rw (le-ltb 1099511627776 (length file) short, lt-ltb (length dest) (length file) less)
+  when_short short less = rw (le-ltb 1099511627776 (length file) short, lt-ltb (length dest) (length file) less)
 
   -- else it goes by the walk
-  by-walk : NotTooLong file → length file ≤ length dest
+  by_walk : NotTooLong file → length file ≤ length dest
       → copy_of licensed file dest ≡ by_outcome (walked unlimited file).outcome licensed file dest
   unfolding copy_of
-  by-walk short fits = rw (le-ltb 1099511627776 (length file) short, le-ltb (length dest) (length file) fits)
+  by_walk short fits = rw (le-ltb 1099511627776 (length file) short, le-ltb (length dest) (length file) fits)
 
   -- the answer to a walk's outcome, in numbers
   abbrev answers_to : Outcome → StoreEnd
   answers_to o = copy_end (by_outcome o licensed file dest).answer
 
   -- the same in numbers
-  when-walked : NotTooLong file → length file ≤ length dest → answers ≡ answers_to (walked unlimited file).outcome
-  when-walked short fits = ap (λ c. copy_end c.answer) (by-walk short fits)
+  when_walked : NotTooLong file → length file ≤ length dest → answers ≡ answers_to (walked unlimited file).outcome
+  when_walked short fits = ap (λ c. copy_end c.answer) (by_walk short fits)
 
   -- a walk's refusal is the copy's
-  refused-alike : (x : Outcome) (n p o d : ℕ) → Not (n ≡ 0) → Iff (answers_to x ≡ refusing n p o d) (end_of x ≡ (refusing n p o d).end)
+  refused_alike : (x : Outcome) (n p o d : ℕ) → Not (n ≡ 0) → Iff (answers_to x ≡ refusing n p o d) (end_of x ≡ (refusing n p o d).end)
   unfolding by_outcome copy_end stored end_of
-  refused-alike outcome.Clean n p o d some = (
+  refused_alike outcome.Clean n p o d some = (
     (λ e. absurd (some (sym (ap (λ (s : StoreEnd). s.end.outcome) e)))),
     λ e. absurd (some (sym (ap (λ (s : End). s.outcome) e))),
   )
-  refused-alike (outcome.Refused why place offset) n p o d some = (
+  refused_alike (outcome.Refused why place offset) n p o d some = (
     (λ e. ap (λ (s : StoreEnd). s.end) e),
     λ e. ap (λ (s : End). record { end = s; written = 0 }) e,
   )
 
   -- a clean end writes the file's length, and no other does
-  clean-alike : (x : Outcome) (octets : ℕ) → answers_to x ≡ stored octets → (x ≡ outcome.Clean) × (octets ≡ length file)
+  clean_alike : (x : Outcome) (octets : ℕ) → answers_to x ≡ stored octets → (x ≡ outcome.Clean) × (octets ≡ length file)
   unfolding by_outcome copy_end stored end_of
-  clean-alike outcome.Clean octets e = (refl, sym (ap (λ (s : StoreEnd). s.written) e))
-  clean-alike (outcome.Refused why place offset) octets e =
+  clean_alike outcome.Clean octets e = (refl, sym (ap (λ (s : StoreEnd). s.written) e))
+  clean_alike (outcome.Refused why place offset) octets e =
       absurd (omega (arith, from_1 why, ap (λ (s : StoreEnd). s.end.outcome) e))
 
   -- the numbers of an end that is given
@@ -98,18 +98,18 @@ module _ (file dest : List ℕ) where
     where
       there : answers ≡ refusing n p o d → CopyGiven file dest n p o d
       there e =
-          split 1099511627776 (length file) (λ long. subst Numbers (sym (when-long long) ∙ e) (copy_too_long long)) λ short.
-          split (length dest) (length file) (λ less. subst Numbers (sym (when-short short less) ∙ e) (too_short short less)) λ fits.
+          split 1099511627776 (length file) (λ long. subst Numbers (sym (when_long long) ∙ e) (copy_too_long long)) λ short.
+          split (length dest) (length file) (λ less. subst Numbers (sym (when_short short less) ∙ e) (too_short short less)) λ fits.
           of_walk short fits
           ((walk_refused_exactly_when unlimited file n p o d some).0
-          ((refused-alike (walked unlimited file).outcome n p o d some).0 (sym (when-walked short fits) ∙ e)))
+          ((refused_alike (walked unlimited file).outcome n p o d some).0 (sym (when_walked short fits) ∙ e)))
 
       back : (n p o d : ℕ) → Not (n ≡ 0) → CopyGiven file dest n p o d → answers ≡ refusing n p o d
-      back _ _ _ _ some (copy_too_long long) = when-long long
-      back _ _ _ _ some (too_short short less) = when-short short less
+      back _ _ _ _ some (copy_too_long long) = when_long long
+      back _ _ _ _ some (too_short short less) = when_short short less
       back n p o d some (of_walk short fits given) =
-          when-walked short fits
-          ∙ (refused-alike (walked unlimited file).outcome n p o d some).1 ((walk_refused_exactly_when unlimited file n p o d some).1 given)
+          when_walked short fits
+          ∙ (refused_alike (walked unlimited file).outcome n p o d some).1 ((walk_refused_exactly_when unlimited file n p o d some).1 given)
 
   -- and all of the file exactly when none is
   whole : (octets : ℕ)
@@ -125,14 +125,14 @@ module _ (file dest : List ℕ) where
       there : answers ≡ stored octets
           → NotTooLong file × (length file ≤ length dest) × EndsClean unlimited file × (octets ≡ length file)
       there e =
-          split 1099511627776 (length file) (λ long. absurd (omega (arith, zeroth (when-long long) e))) λ short.
-          split (length dest) (length file) (λ less. absurd (omega (arith, zeroth (when-short short less) e))) λ fits.
-          let ends = clean-alike (walked unlimited file).outcome octets (sym (when-walked short fits) ∙ e) in
+          split 1099511627776 (length file) (λ long. absurd (omega (arith, zeroth (when_long long) e))) λ short.
+          split (length dest) (length file) (λ less. absurd (omega (arith, zeroth (when_short short less) e))) λ fits.
+          let ends = clean_alike (walked unlimited file).outcome octets (sym (when_walked short fits) ∙ e) in
           (short, fits, (walk_clean_exactly_when unlimited file).0 (ap end_of ends.0), ends.1)
 
       back : NotTooLong file × (length file ≤ length dest) × EndsClean unlimited file × (octets ≡ length file) → answers ≡ stored octets
       back (short, fits, ends, e) =
-          when-walked short fits
+          when_walked short fits
           ∙ ap answers_to
           (is_clean (walked unlimited file).outcome (ap (λ (x : End). x.outcome) ((walk_clean_exactly_when unlimited file).1 ends)))
           ∙ ap stored (sym e)
@@ -142,8 +142,8 @@ module _ (file dest : List ℕ) where
       → take (length file) (copy_of licensed file dest).dest ≡ public_copy licensed file
   unfolding by_outcome
   copied clean fits =
-      rw (by-walk (clean_short file clean) fits, clean)
-      (take_at (public_copy licensed file) (drop (length file) dest) (length file) (length-copy licensed file))
+      rw (by_walk (clean_short file clean) fits, clean)
+      (take_at (public_copy licensed file) (drop (length file) dest) (length file) (length_copy licensed file))
 
 pub copy_refused_exactly_when : CopyRefusedExactlyWhen
 copy_refused_exactly_when file dest = refuses file dest

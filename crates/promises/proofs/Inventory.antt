@@ -46,13 +46,13 @@ module _ (file text : List ℕ) where
   outcome_of = (walked unlimited file).outcome
 
   -- of a clean end: 20, or all of the text
-  when-small : length text < length (inventory_text file) → answers_to outcome.Clean ≡ refusing 20 0 0 0
+  when_small : length text < length (inventory_text file) → answers_to outcome.Clean ≡ refusing 20 0 0 0
   unfolding inventory_by text_into inventory_end unplaced
-  when-small less = rw (lt-ltb (length text) (length (inventory_text file)) less)
+  when_small less = rw (lt-ltb (length text) (length (inventory_text file)) less)
 
-  when-fits : length (inventory_text file) ≤ length text → answers_to outcome.Clean ≡ stored (length (inventory_text file))
+  when_fits : length (inventory_text file) ≤ length text → answers_to outcome.Clean ≡ stored (length (inventory_text file))
   unfolding inventory_by text_into inventory_end
-  when-fits fits = rw (le-ltb (length text) (length (inventory_text file)) fits)
+  when_fits fits = rw (le-ltb (length text) (length (inventory_text file)) fits)
 
   -- the walk's end, of a clean outcome
   clean_end : outcome_of ≡ outcome.Clean → EndsClean unlimited file
@@ -73,47 +73,47 @@ module _ (file text : List ℕ) where
   unfolding inventory_by inventory_end end_of stored
   refused_there outcome.Clean is n p o d some e =
       split (length text) (length (inventory_text file))
-      (λ less. subst Numbers (sym (when-small less) ∙ e) (text_too_small (clean_end is) less)) λ fits.
-      absurd (some (sym (ap (λ (s : StoreEnd). s.end.outcome) (sym (when-fits fits) ∙ e))))
+      (λ less. subst Numbers (sym (when_small less) ∙ e) (text_too_small (clean_end is) less)) λ fits.
+      absurd (some (sym (ap (λ (s : StoreEnd). s.end.outcome) (sym (when_fits fits) ∙ e))))
   refused_there (outcome.Refused why place offset) is n p o d some e =
       walks_own ((walk_refused_exactly_when unlimited file n p o d some).0 (ap end_of is ∙ ap (λ (s : StoreEnd). s.end) e))
 
   -- and the other way round
-  refused-back : (x : Outcome) → outcome_of ≡ x → (n p o d : ℕ) → Not (n ≡ 0) → end_of x ≡ (refusing n p o d).end
+  refused_back : (x : Outcome) → outcome_of ≡ x → (n p o d : ℕ) → Not (n ≡ 0) → end_of x ≡ (refusing n p o d).end
       → answers_to x ≡ refusing n p o d
   unfolding inventory_by inventory_end end_of
-  refused-back outcome.Clean is n p o d some e = absurd (some (sym (ap (λ (s : End). s.outcome) e)))
-  refused-back (outcome.Refused why place offset) is n p o d some e = ap (λ (s : End). record { end = s; written = 0 }) e
+  refused_back outcome.Clean is n p o d some e = absurd (some (sym (ap (λ (s : End). s.outcome) e)))
+  refused_back (outcome.Refused why place offset) is n p o d some e = ap (λ (s : End). record { end = s; written = 0 }) e
 
-  inventory-refuses : (n p o d : ℕ) → Not (n ≡ 0)
+  inventory_refuses : (n p o d : ℕ) → Not (n ≡ 0)
       → Iff (answers_to outcome_of ≡ refusing n p o d) (InventoryGiven file text n p o d)
-  inventory-refuses n p o d some = (refused_there outcome_of refl n p o d some, back n p o d some)
+  inventory_refuses n p o d some = (refused_there outcome_of refl n p o d some, back n p o d some)
     where
       back : (n p o d : ℕ) → Not (n ≡ 0) → InventoryGiven file text n p o d → answers_to outcome_of ≡ refusing n p o d
       back n p o d some (walks_own given) =
-          refused-back outcome_of refl n p o d some ((walk_refused_exactly_when unlimited file n p o d some).1 given)
-      back _ _ _ _ some (text_too_small ends less) = ap answers_to (end_clean ends) ∙ when-small less
+          refused_back outcome_of refl n p o d some ((walk_refused_exactly_when unlimited file n p o d some).1 given)
+      back _ _ _ _ some (text_too_small ends less) = ap answers_to (end_clean ends) ∙ when_small less
 
   -- all of the text exactly when neither is
-  written-there : (x : Outcome) → outcome_of ≡ x → (octets : ℕ) → answers_to x ≡ stored octets
+  written_there : (x : Outcome) → outcome_of ≡ x → (octets : ℕ) → answers_to x ≡ stored octets
       → EndsClean unlimited file × (length (inventory_text file) ≤ length text) × (octets ≡ length (inventory_text file))
   unfolding inventory_by inventory_end end_of stored
-  written-there outcome.Clean is octets e =
+  written_there outcome.Clean is octets e =
       split (length text) (length (inventory_text file))
-      (λ less. absurd (omega (arith, ap (λ (s : StoreEnd). s.end.outcome) (sym (when-small less) ∙ e)))) λ fits.
-      (clean_end is, fits, sym (ap (λ (s : StoreEnd). s.written) (sym (when-fits fits) ∙ e)))
-  written-there (outcome.Refused why place offset) is octets e =
+      (λ less. absurd (omega (arith, ap (λ (s : StoreEnd). s.end.outcome) (sym (when_small less) ∙ e)))) λ fits.
+      (clean_end is, fits, sym (ap (λ (s : StoreEnd). s.written) (sym (when_fits fits) ∙ e)))
+  written_there (outcome.Refused why place offset) is octets e =
       absurd (omega (arith, from_1 why, ap (λ (s : StoreEnd). s.end.outcome) e))
 
 pub inventory_refused_exactly_when : InventoryRefusedExactlyWhen
 unfolding inventory_of
-inventory_refused_exactly_when file text n p o d some = inventory-refuses file text n p o d some
+inventory_refused_exactly_when file text n p o d some = inventory_refuses file text n p o d some
 
 pub inventory_written_exactly_when : InventoryWrittenExactlyWhen
 unfolding inventory_of
 inventory_written_exactly_when file text octets = (
-  written-there file text (walked unlimited file).outcome refl octets,
-  λ (ends, fits, e). ap (answers_to file text) (end_clean file text ends) ∙ when-fits file text fits ∙ ap stored (sym e),
+  written_there file text (walked unlimited file).outcome refl octets,
+  λ (ends, fits, e). ap (answers_to file text) (end_clean file text ends) ∙ when_fits file text fits ∙ ap stored (sym e),
 )
 
 pub inventory_reads_back : InventoryReadsBack

@@ -30,7 +30,7 @@ use Rattle.writer.specs.declared.Written.TheVariants.{Whole, TooManySections, No
 use Rattle.writer.proofs.Checks.{accepted, all_sound}
 use Rattle.writer.proofs.Lengths.{length_message}
 use Rattle.walk_laws.proofs.Counts.{within_room}
-use Rattle.blindness.proofs.Copies.{length-copy}
+use Rattle.blindness.proofs.Copies.{length_copy}
 use Rattle.promises.specs.Lent.{Leaves, Holds, WalkStores, NumbersStore, CopyLeaves, WriteLeaves}
 
 -- so where so many are put in front of the others
@@ -94,7 +94,7 @@ copy_leaves file dest =
     Kept c = Leaves (copy_end c.answer).written dest c.dest
 
     go : (o : Outcome) → length file ≤ length dest → Kept (by_outcome o licensed file dest)
-    go outcome.Clean fits = in_front (public_copy licensed file) dest (length file) (length-copy licensed file) fits
+    go outcome.Clean fits = in_front (public_copy licensed file) dest (length file) (length_copy licensed file) fits
     go (outcome.Refused why place offset) fits = (refl, refl)
 
 -- so does a message

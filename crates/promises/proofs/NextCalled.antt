@@ -32,7 +32,7 @@ use Rattle.pull.proofs.Reader as Reader
 use Rattle.pull.specs.declared.Progress.{Progress}
 use Rattle.promises.specs.Contract.{CanBeCalled}
 use Rattle.promises.specs.Parameters.{Parameter, value, lent, MayPassAll}
-use Rattle.promises.proofs.Called.{KnownAll, started, all-passed, put, under-name}
+use Rattle.promises.proofs.Called.{KnownAll, started, all_passed, put, under_name}
 
 -- what a reader is made of: its file, lent for the second of two lifetimes, and its progress
 abbrev parts : List (Parameter 2)
@@ -50,17 +50,17 @@ shared_out 𝓤 own token left right split =
     (pad (sep 𝓤 (sep 𝓤 left (sep 𝓤 right (emp 𝓤))) (sep 𝓤 own (emp 𝓤))))))
 
 module _ {M : Type 1} (known : KnownAll parts) where
-  pub next-can-be-called : CanBeCalled M pull.Reader.next.ended pull.Reader.next.clauses
+  pub next_can_be_called : CanBeCalled M pull.Reader.next.ended pull.Reader.next.clauses
       (λ κs (reader, _). (reader.now.file.now, reader.now.progress))
       (λ (file, progress). MayPassAll {n = 1} (lent 0 tt u8 ∷ value Progress.the_row ∷ []) (file, (progress, tt)))
   unfolding part_of
-  next-can-be-called contents may 𝓤 𝓛 𝓜 𝓡 =
+  next_can_be_called contents may 𝓤 𝓛 𝓜 𝓡 =
       let A = 𝓛.A in
       ∥∥₁_elim (started 𝓛 𝓜 1) ∥∥₁_prop λ k.
       let κ : Lft = k.1.0 in
       let κs : Lfts 2 = (κ, (κ, tt)) in
       let tokens : SProp 𝓤 = sep 𝓤 (sep 𝓤 (A.lft κ full_share) (emp 𝓤)) (emp 𝓤) in
-      ∥∥₁_elim (all-passed 𝓛 𝓜 κs parts known (contents.0, (contents.1, tt)) may k.0 tokens k.2) ∥∥₁_prop λ r.
+      ∥∥₁_elim (all_passed 𝓛 𝓜 κs parts known (contents.0, (contents.1, tt)) may k.0 tokens k.2) ∥∥₁_prop λ r.
       let T : Declared = Reader.the_type (named_lft 2 1 tt κs) in
       let R : RattleType = row T in
       let d : R.Denot = record { file = r.arguments.0; progress = r.arguments.1.0 } in
@@ -78,7 +78,7 @@ module _ {M : Type 1} (known : KnownAll parts) where
       (via 𝓤 (sep 𝓤 (emp 𝓤) (sem 𝓛 held)) (emp∗ 𝓤 (sem 𝓛 held)) (mono_l 𝓤 (sem 𝓛 held) (makes_shadow 𝓛 (feq (List Val) (v ∷ []) (v ∷ [])) tt refl)))
       (ex_i 𝓤 (λ (vss : Valss (fields T)). sem 𝓛 (within (shape T) (T.to d) (v ∷ []) vss)) r.values))) r.hold)) ∥∥₁_prop λ m.
       let b = m.1 in
-      ∥∥₁_map (under-name 𝓛 𝓜 m.0 (sem 𝓛 ((mem R).own_at d b zero)) tokens
+      ∥∥₁_map (under_name 𝓛 𝓜 m.0 (sem 𝓛 ((mem R).own_at d b zero)) tokens
       (λ γ. sem 𝓛 ((MutRef (named 0) κ R).own_val (record { ref_ptr = (b, zero); ghost_name = γ; now = d }) (vptr b zero ∷ []))) (λ γ. A.lent κ (Body (mem R) b zero γ))
       (lends_ref 𝓛 R (named 0) κ d b zero) m.2) λ g.
       let reader : MutBor R.Denot = record { ref_ptr = (b, zero); ghost_name = g.0; now = d } in
@@ -89,6 +89,6 @@ module _ {M : Type 1} (known : KnownAll parts) where
         memory = m.0;
         bound = (κs, (PosShare.left full_share, (PosShare.right full_share, tt)), (Incl-refl κ, tt), (reader, tt), (vptr b zero ∷ [], tt));
         ghost = tt;
-        is-taken = ap (λ (c : List ℕ × (Progress × Unit {0})). (c.0, c.1.0)) r.are;
+        is_taken = ap (λ (c : List ℕ × (Progress × Unit {0})). (c.0, c.1.0)) r.are;
         enters = sat_weaken 𝓤 𝓛.H 𝓜 m.0 (shared_out 𝓤 own (A.lft κ full_share) left right (𝓛.lfts.lft_split κ full_share)) g.1;
       }

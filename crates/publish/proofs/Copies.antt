@@ -22,11 +22,11 @@ use Rattle.reading.specs.Reading.{start, seen}
 use Rattle.reading.specs.declared.Reading.{Reading}
 use Rattle.reading.specs.declared.Seen.{Seen}
 use Rattle.reading.specs.declared.Seen.TheVariants as seen
-use Rattle.reading.proofs.Moves.{clean-reads}
+use Rattle.reading.proofs.Moves.{clean_reads}
 use Rattle.publish.specs.Values.{licensed}
 use Rattle.publish.specs.Copy.{stays, blanked_from, public_copy}
 use Rattle.publish.specs.Runs.{WroteRun, zeros, copied_octet, WroteSection, ToWrite}
-use Rattle.publish.proofs.Runs.{wrote_none, wrote_as, wrote-both, wrote-list}
+use Rattle.publish.proofs.Runs.{wrote_none, wrote_as, wrote_both, wrote_list}
 use Rattle.publish.specs.Passed.{passed_by}
 use Rattle.publish.specs.declared.Passed.{Passed}
 use Rattle.publish.specs.declared.Passed.TheVariants as passed
@@ -37,21 +37,21 @@ use Rattle.publish.proofs.Turns.{unclean, OnWay, sees, whole}
 
 -- the octets of a copy
 module _ (keep : ℕ → Bool) where
-  blanked-length : (i : ℕ) (file : List ℕ) → length (blanked_from keep i file) ≡ length file
+  blanked_length : (i : ℕ) (file : List ℕ) → length (blanked_from keep i file) ≡ length file
   unfolding blanked_from
-  blanked-length i [] = refl
-  blanked-length i (octet ∷ more) = ap suc (blanked-length (i + 1) more)
+  blanked_length i [] = refl
+  blanked_length i (octet ∷ more) = ap suc (blanked_length (i + 1) more)
 
-  blanked-octet : (i : ℕ) (file : List ℕ) (k : ℕ) → get_or (blanked_from keep i file) k 0 ≡ pick (keep (i + k)) (get_or file k 0) 0
+  blanked_octet : (i : ℕ) (file : List ℕ) (k : ℕ) → get_or (blanked_from keep i file) k 0 ≡ pick (keep (i + k)) (get_or file k 0) 0
   unfolding blanked_from
-  blanked-octet i [] k = go (keep (i + k))
+  blanked_octet i [] k = go (keep (i + k))
     where
       go : (b : Bool) → ◌≡◌ {A = ℕ} 0 (pick b 0 0)
       go true = refl
       go false = refl
-  blanked-octet i (octet ∷ more) zero = rw add-zero
-  blanked-octet i (octet ∷ more) (suc k) =
-      blanked-octet (i + 1) more k ∙ ap (λ (j : ℕ). pick (keep j) (get_or more k 0) 0) (omega arith)
+  blanked_octet i (octet ∷ more) zero = rw add-zero
+  blanked_octet i (octet ∷ more) (suc k) =
+      blanked_octet (i + 1) more k ∙ ap (λ (j : ℕ). pick (keep j) (get_or more k 0) 0) (omega arith)
 
 -- an octet of a file's public copy
 unfoldable pub stayed : List ℕ → ℕ → Bool
@@ -83,42 +83,42 @@ over_left (over_between none nowhere) = inl none
 over_left (over_within some past) = inr past
 
 module _ (file : List ℕ) (fits : length file ≤ most_octets) {all : Outcome} (at : Reading) (way : OnWay all file at) where
-  by-seen : (v : Seen) → seen file at ≡ v → By file way.r at.cursor (passed_by v)
+  by_seen_lem : (v : Seen) → seen file at ≡ v → By file way.r at.cursor (passed_by v)
   unfolding passed_by
-  by-seen (seen.Passes s next) e = steps.passes file fits way.r at.cursor way.bounded (sees way e)
-  by-seen (seen.Closes s next) e = steps.closes file fits way.r at.cursor way.bounded (sees way e)
-  by-seen (seen.Misplaced s) e = tt
-  by-seen (seen.NoGrid s) e = tt
-  by-seen seen.Clean e = tt
-  by-seen seen.InputOver e = tt
-  by-seen (seen.Unreadable fault offset) e = tt
+  by_seen_lem (seen.Passes s next) e = steps.passes file fits way.r at.cursor way.bounded (sees way e)
+  by_seen_lem (seen.Closes s next) e = steps.closes file fits way.r at.cursor way.bounded (sees way e)
+  by_seen_lem (seen.Misplaced s) e = tt
+  by_seen_lem (seen.NoGrid s) e = tt
+  by_seen_lem seen.Clean e = tt
+  by_seen_lem seen.InputOver e = tt
+  by_seen_lem (seen.Unreadable fault offset) e = tt
 
-  left-seen : (v : Seen) → seen file at ≡ v → (told_on file way.r at.cursor).outcome ≡ Clean → Left file way.r at.cursor (passed_by v)
+  left_seen : (v : Seen) → seen file at ≡ v → (told_on file way.r at.cursor).outcome ≡ Clean → Left file way.r at.cursor (passed_by v)
   unfolding passed_by
-  left-seen (seen.Passes s next) e clean = tt
-  left-seen (seen.Closes s next) e clean = tt
-  left-seen (seen.Misplaced s) e clean =
+  left_seen (seen.Passes s next) e clean = tt
+  left_seen (seen.Closes s next) e clean = tt
+  left_seen (seen.Misplaced s) e clean =
       absurd (unclean (steps.misplaced file fits way.r at.cursor way.bounded (sees way e)).outcome clean)
-  left-seen (seen.NoGrid s) e clean = absurd (unclean (steps.no_grid file fits way.r at.cursor way.bounded (sees way e)).outcome clean)
-  left-seen seen.Clean e clean = (
+  left_seen (seen.NoGrid s) e clean = absurd (unclean (steps.no_grid file fits way.r at.cursor way.bounded (sees way e)).outcome clean)
+  left_seen seen.Clean e clean = (
     (steps.clean file fits way.r at.cursor way.bounded (sees way e)).none,
-    over_left (reads_as file at.cursor.at.0 at.cursor.rest (clean-reads file at e)),
+    over_left (reads_as file at.cursor.at.0 at.cursor.rest (clean_reads file at e)),
   )
-  left-seen seen.InputOver e clean = absurd (unclean (steps.input-over file fits way.r at.cursor way.bounded (sees way e)).outcome clean)
-  left-seen (seen.Unreadable fault offset) e clean =
+  left_seen seen.InputOver e clean = absurd (unclean (steps.input_over_lem file fits way.r at.cursor way.bounded (sees way e)).outcome clean)
+  left_seen (seen.Unreadable fault offset) e clean =
       absurd (unclean (steps.unreadable file fits way.r at.cursor way.bounded (sees way e)).outcome clean)
 
   pub passing : {s : Section} {next : Reading} → passed_by (seen file at) ≡ passed.Section s next → Passes file way.r at.cursor s next
-  passing f = subst (By file way.r at.cursor) f (by-seen (seen file at) refl)
+  passing f = subst (By file way.r at.cursor) f (by_seen_lem (seen file at) refl)
 
   pub nothing_left : passed_by (seen file at) ≡ passed.Ended → (told_on file way.r at.cursor).outcome ≡ Clean
       → ((told_on file way.r at.cursor).sections ≡ []) × ((at.cursor.rest ≡ 0) ⊎ (length file ≤ at.cursor.at.0))
-  nothing_left f clean = subst (Left file way.r at.cursor) f (left-seen (seen file at) refl clean)
+  nothing_left f clean = subst (Left file way.r at.cursor) f (left_seen (seen file at) refl clean)
 
 module _ (file d₀ : List ℕ) (fits : length file ≤ most_octets) where
-  pub copying-first : (walked unlimited file).outcome ≡ Clean → Copying file d₀ start 0 d₀
+  pub copying_first : (walked unlimited file).outcome ≡ Clean → Copying file d₀ start 0 d₀
   unfolding stayed
-  copying-first clean =
+  copying_first clean =
       record {
         way = record { r = at_start file; order = refl; bounded = first_bounded file; comes = ap (λ (t : Told). t.outcome) (sym (first_told file fits)) ∙ clean };
         here = refl;
@@ -141,9 +141,9 @@ module _ (file d₀ : List ℕ) (fits : length file ≤ most_octets) where
           roomy = omega (arith, before.written.same_length);
         }
 
-    turn-here : (k : ℕ) → done ≤ k → k < next.cursor.at.0 → copied_octet file s k ≡ copied file k
+    turn_here : (k : ℕ) → done ≤ k → k < next.cursor.at.0 → copied_octet file s k ≡ copied file k
     unfolding copied_octet copied
-    turn-here k low high =
+    turn_here k low high =
         ap (λ (t : Bool). pick t (get_or file k 0) 0)
         (sym
         (before.to_come k low
@@ -158,8 +158,8 @@ module _ (file d₀ : List ℕ) (fits : length file ≤ most_octets) where
         ∙ ap (λ (l : List Section). left file at.cursor.at.0 at.cursor.rest l k) p.sections
         ∙ left_behind file s next.cursor (told_on file p.q next.cursor).sections k p.is_read low
 
-    pub copying-turn : {d' : List ℕ} → WroteSection file done s d d' → Copying file d₀ next next.cursor.at.0 d'
-    copying-turn {d'} wrote =
+    pub copying_turn : {d' : List ℕ} → WroteSection file done s d d' → Copying file d₀ next next.cursor.at.0 d'
+    copying_turn {d'} wrote =
         let common = goes p.is_read in
         let run : WroteRun (copied_octet file s) done next.cursor.at.0 d d' = rw common.ends wrote in
         record {
@@ -167,7 +167,7 @@ module _ (file d₀ : List ℕ) (fits : length file ≤ most_octets) where
           here = refl;
           inside = whole file fits p before.way.comes;
           written =
-              wrote-both (omega arith) (omega (arith, before.here)) before.written (wrote_as (copied_octet file s) turn-here run);
+              wrote_both (omega arith) (omega (arith, before.here)) before.written (wrote_as (copied_octet file s) turn_here run);
           to_come = behind;
         }
 
@@ -175,15 +175,15 @@ module _ (file d₀ : List ℕ) (fits : length file ≤ most_octets) where
     nearer = let common = goes p.is_read in omega arith
 
   -- behind the last section there are zeros, and then the copy stands
-  pub copying-last : {at : Reading} {done : ℕ} {d d' : List ℕ} (before : Copying file d₀ at done d)
+  pub copying_last : {at : Reading} {done : ℕ} {d d' : List ℕ} (before : Copying file d₀ at done d)
       → passed_by (seen file at) ≡ passed.Ended → length file ≤ length d₀
       → WroteRun zeros done (length file) d d' → d' ≡ public_copy licensed file ++ drop (length file) d₀
   unfolding public_copy copied stayed
-  copying-last {at} {done} {d' = d'} before ended room wrote =
-      subst (λ (n : ℕ). n ≤ length d₀ → WroteRun (copied file) 0 n d₀ d' → d' ≡ copy ++ drop n d₀) (blanked-length keep 0 file)
-      (wrote-list copy d₀ d' λ k. sym (blanked-octet keep 0 file k ∙ ap (λ (j : ℕ). pick (keep j) (get_or file k 0) 0) (zero-add k)))
+  copying_last {at} {done} {d' = d'} before ended room wrote =
+      subst (λ (n : ℕ). n ≤ length d₀ → WroteRun (copied file) 0 n d₀ d' → d' ≡ copy ++ drop n d₀) (blanked_length keep 0 file)
+      (wrote_list copy d₀ d' λ k. sym (blanked_octet keep 0 file k ∙ ap (λ (j : ℕ). pick (keep j) (get_or file k 0) 0) (zero-add k)))
       room
-      (wrote-both (omega arith) before.inside before.written
+      (wrote_both (omega arith) before.inside before.written
       (wrote_as zeros (λ k low high. ap (λ (t : Bool). pick t (get_or file k 0) 0) (sym (none k low high))) wrote))
     where
       keep : ℕ → Bool

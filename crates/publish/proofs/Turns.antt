@@ -53,8 +53,8 @@ pub sees : {whole : Outcome} {file : List ℕ} {at : Reading} {v : Seen} (way : 
 sees way e = rw way.order e
 
 module _ (file : List ℕ) (fits : length file ≤ most_octets) where
-  pub first-on-way : OnWay (walked unlimited file).outcome file start
-  first-on-way =
+  pub first_on_way : OnWay (walked unlimited file).outcome file start
+  first_on_way =
       record {
         r = at_start file;
         order = refl;
@@ -62,21 +62,21 @@ module _ (file : List ℕ) (fits : length file ≤ most_octets) where
         comes = ap (λ (t : Told). t.outcome) (sym (first_told file fits));
       }
 
-  pub first-counting : Counting (walked unlimited file).outcome file start 0 unlisted
-  unfolding first-on-way
-  first-counting = record { way = first-on-way; counted = refl; passed = refl }
+  pub first_counting : Counting (walked unlimited file).outcome file start 0 unlisted
+  unfolding first_on_way
+  first_counting = record { way = first_on_way; counted = refl; passed = refl }
 
-  pub on-way : {whole : Outcome} {at next : Reading} {s : Section} (way : OnWay whole file at)
+  pub on_way : {whole : Outcome} {at next : Reading} {s : Section} (way : OnWay whole file at)
       → Passes file way.r at.cursor s next → OnWay whole file next
-  on-way way p = record { r = p.q; order = p.order; bounded = p.bounded; comes = sym p.outcome ∙ way.comes }
+  on_way way p = record { r = p.q; order = p.order; bounded = p.bounded; comes = sym p.outcome ∙ way.comes }
 
   pub counting : {whole : Outcome} {at next : Reading} {s : Section} {sections : ℕ} {last : Listed} (c : Counting whole file at sections last)
       → Passes file c.way.r at.cursor s next
       → Counting whole file next (sections + 1) (record { place = place sections; section = s })
-  unfolding on-way
+  unfolding on_way
   counting {s = s} c p =
       record {
-        way = on-way c.way p;
+        way = on_way c.way p;
         counted = p.placed ∙ ap (λ (n : ℕ). n + 1) c.counted;
         passed = p.last ∙ ap (λ (n : ℕ). record { place = place n; section = s }) c.counted;
       }

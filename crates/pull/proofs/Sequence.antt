@@ -143,23 +143,23 @@ module _ (file : List ℕ) (fits : length file ≤ most_octets) where
     sees : {v : Seen} → seen file p.reading ≡ v → seen file (reading p.reading.cursor st.r.order) ≡ v
     sees e = rw st.order e
 
-    by-seen : (v : Seen) → seen file p.reading ≡ v → pull_at file p ≡ pull_by p v → Hands call p st
+    by_seen_lem : (v : Seen) → seen file p.reading ≡ v → pull_at file p ≡ pull_by p v → Hands call p st
     unfolding pull_by
-    by-seen (seen.Passes s next) e q = passed s next (steps.passes file fits st.r p.reading.cursor st.bounded (sees e)) q
-    by-seen (seen.Closes s next) e q = passed s next (steps.closes file fits st.r p.reading.cursor st.bounded (sees e)) q
-    by-seen (seen.Misplaced s) e q =
+    by_seen_lem (seen.Passes s next) e q = passed s next (steps.passes file fits st.r p.reading.cursor st.bounded (sees e)) q
+    by_seen_lem (seen.Closes s next) e q = passed s next (steps.closes file fits st.r p.reading.cursor st.bounded (sees e)) q
+    by_seen_lem (seen.Misplaced s) e q =
         ended _ (steps.misplaced file fits st.r p.reading.cursor st.bounded (sees e)) (q ∙ rw st.counted)
-    by-seen (seen.NoGrid s) e q =
+    by_seen_lem (seen.NoGrid s) e q =
         ended _ (steps.no_grid file fits st.r p.reading.cursor st.bounded (sees e)) (q ∙ rw st.counted)
-    by-seen seen.Clean e q = ended _ (steps.clean file fits st.r p.reading.cursor st.bounded (sees e)) q
-    by-seen seen.InputOver e q =
-        ended _ (steps.input-over file fits st.r p.reading.cursor st.bounded (sees e)) (q ∙ rw st.last)
-    by-seen (seen.Unreadable fault offset) e q =
+    by_seen_lem seen.Clean e q = ended _ (steps.clean file fits st.r p.reading.cursor st.bounded (sees e)) q
+    by_seen_lem seen.InputOver e q =
+        ended _ (steps.input_over_lem file fits st.r p.reading.cursor st.bounded (sees e)) (q ∙ rw st.last)
+    by_seen_lem (seen.Unreadable fault offset) e q =
         ended _ (steps.unreadable file fits st.r p.reading.cursor st.bounded (sees e)) (q ∙ rw st.counted)
 
-  hands-from : (call : ℕ) (p : Progress) (st : Stands file p) → Hands call p st
-  hands-from zero p st = by-seen zero p st tt (seen file p.reading) refl (one_call zero p st tt)
-  hands-from (suc call) p st = by-seen (suc call) p st (hands-from call) (seen file p.reading) refl (one_call (suc call) p st (hands-from call))
+  hands_from : (call : ℕ) (p : Progress) (st : Stands file p) → Hands call p st
+  hands_from zero p st = by_seen_lem zero p st tt (seen file p.reading) refl (one_call zero p st tt)
+  hands_from (suc call) p st = by_seen_lem (suc call) p st (hands_from call) (seen file p.reading) refl (one_call (suc call) p st (hands_from call))
 
 -- ---- from a file's start on
 
@@ -184,7 +184,7 @@ at_first file = record { r = at_start file; order = refl; bounded = first_bounde
 handed_first : (file : List ℕ) (call : ℕ) → length file ≤ most_octets
     → answer_at call file (first_of file) ≡ hands_out 0 (walked unlimited file).sections (walked unlimited file).outcome call
 unfolding first_of at_first
-handed_first file call fits = hands-from file fits call (first_of file) (at_first file) ∙ rw (first_told file fits)
+handed_first file call fits = hands_from file fits call (first_of file) (at_first file) ∙ rw (first_told file fits)
 
 -- each call hands out what `Pull` says
 pub sequence : (file : List ℕ) → (call : ℕ) → (pull_at file (after_calls call file)).answer ≡ pulled file call

@@ -9,7 +9,7 @@ use Rattle.framing.specs.Framing.{read_at}
 use Rattle.framing.specs.declared.read.Section.{Section}
 use Rattle.framing.specs.declared.read.Cursor.{Cursor}
 use Rattle.framing.specs.Read as read
-use Rattle.framing.proofs.OneRead.{reads_as, starts-with-0}
+use Rattle.framing.proofs.OneRead.{reads_as, starts_with_0}
 use Rattle.reading.specs.Reading.{Settled}
 use Rattle.reading.specs.declared.Reading.{Reading}
 
@@ -17,4 +17,4 @@ pub as_judged : (file : List ℕ) (r : Reading) → Settled r → {s : Section} 
     → read_at file r.cursor.at.0 r.cursor.rest ≡ read.Section s next
     → judged_read r.order s.number ≡ judged r.order s.number
 as_judged file r settled {s} e =
-    read_judged r.order s.number λ between. starts-with-0 (reads_as file r.cursor.at.0 r.cursor.rest e) (settled between)
+    read_judged r.order s.number λ between. starts_with_0 (reads_as file r.cursor.at.0 r.cursor.rest e) (settled between)

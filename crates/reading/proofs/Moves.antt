@@ -12,13 +12,13 @@ use Rattle.order.specs.declared.Order.{Order}
 use Rattle.order.specs.declared.Order.TheVariants.{BetweenMessages, AfterData, SubmessageStart}
 use Rattle.order.specs.declared.Judged.{Judged}
 use Rattle.order.specs.declared.Judged.TheVariants as order
-use Rattle.order.proofs.Laws.{fits_below, fits-open, closes-only, completes_only}
+use Rattle.order.proofs.Laws.{fits_below, fits_open, closes_only, completes_only}
 use Rattle.framing.specs.Framing.{read_at}
 use Rattle.framing.specs.declared.read.Section.{Section}
 use Rattle.framing.specs.declared.read.Cursor.{Cursor}
 use Rattle.framing.specs.Read.{Read}
 use Rattle.framing.specs.Read as read
-use Rattle.framing.proofs.OneRead.{reads_as, goes, ends-with-8}
+use Rattle.framing.proofs.OneRead.{reads_as, goes, ends_with_8}
 use Rattle.framing.proofs.Tests.{never_both}
 use Rattle.reading.specs.Reading.{reading, Settled, seen_by_order, over_in, seen_by_read, seen}
 use Rattle.reading.specs.declared.Reading.{Reading}
@@ -72,44 +72,44 @@ module _ (file : List ℕ) (r : Reading) where
   unfolding seen
   known e = subst (Says (read_at file r.cursor.at.0 r.cursor.rest) r.order) e (says (read_at file r.cursor.at.0 r.cursor.rest) r.order)
 
-  pub passes-reads : {s : Section} {next : Reading} → seen file r ≡ Passes s next
+  pub passes_reads : {s : Section} {next : Reading} → seen file r ≡ Passes s next
       → read_at file r.cursor.at.0 r.cursor.rest ≡ read.Section s next.cursor
-  passes-reads e = (known e).0
+  passes_reads e = (known e).0
 
-  pub closes-reads : {s : Section} {next : Reading} → seen file r ≡ Closes s next
+  pub closes_reads : {s : Section} {next : Reading} → seen file r ≡ Closes s next
       → read_at file r.cursor.at.0 r.cursor.rest ≡ read.Section s next.cursor
-  closes-reads e = (known e).0
+  closes_reads e = (known e).0
 
-  pub clean-reads : seen file r ≡ Clean → read_at file r.cursor.at.0 r.cursor.rest ≡ read.Over
-  clean-reads e = known e
+  pub clean_reads : seen file r ≡ Clean → read_at file r.cursor.at.0 r.cursor.rest ≡ read.Over
+  clean_reads e = known e
 
-  pub passes-stands : {s : Section} {next : Reading} → seen file r ≡ Passes s next → Stands file r.cursor.at.0 s next.cursor
-  passes-stands {s} {next} e = stands file r s next.cursor (known e).0
+  pub passes_stands : {s : Section} {next : Reading} → seen file r ≡ Passes s next → Stands file r.cursor.at.0 s next.cursor
+  passes_stands {s} {next} e = stands file r s next.cursor (known e).0
 
-  pub closes-stands : {s : Section} {next : Reading} → seen file r ≡ Closes s next → Stands file r.cursor.at.0 s next.cursor
-  closes-stands {s} {next} e = stands file r s next.cursor (known e).0
+  pub closes_stands : {s : Section} {next : Reading} → seen file r ≡ Closes s next → Stands file r.cursor.at.0 s next.cursor
+  closes_stands {s} {next} e = stands file r s next.cursor (known e).0
 
-  pub closes-between : {s : Section} {next : Reading} → seen file r ≡ Closes s next → next.order ≡ BetweenMessages
-  closes-between e = (known e).1
+  pub closes_between : {s : Section} {next : Reading} → seen file r ≡ Closes s next → next.order ≡ BetweenMessages
+  closes_between e = (known e).1
 
   -- at a reading that a walk comes to, it is what the order lets come
   module _ (settled : Settled r) where
-    pub passes-fits : {s : Section} {next : Reading} → seen file r ≡ Passes s next → judged r.order s.number ≡ order.Fits next.order
-    passes-fits e = sym (as_judged file r settled (known e).0) ∙ (known e).1
+    pub passes_fits : {s : Section} {next : Reading} → seen file r ≡ Passes s next → judged r.order s.number ≡ order.Fits next.order
+    passes_fits e = sym (as_judged file r settled (known e).0) ∙ (known e).1
 
     pub passes_kept : {s : Section} {next : Reading} → seen file r ≡ Passes s next → s.number < 8
-    passes_kept e = fits_below _ _ (passes-fits e)
+    passes_kept e = fits_below _ _ (passes_fits e)
 
-    pub closes-judged : {s : Section} {next : Reading} → seen file r ≡ Closes s next → judged r.order s.number ≡ order.Closes
-    closes-judged e = sym (as_judged file r settled (known e).0) ∙ (known e).2
+    pub closes_judged : {s : Section} {next : Reading} → seen file r ≡ Closes s next → judged r.order s.number ≡ order.Closes
+    closes_judged e = sym (as_judged file r settled (known e).0) ∙ (known e).2
 
     -- and so is the next one
-    pub passes-settled : {s : Section} {next : Reading} → seen file r ≡ Passes s next → Settled next
-    passes-settled e between = absurd (never_both between (fits-open _ _ (passes-fits e)))
+    pub passes_settled : {s : Section} {next : Reading} → seen file r ≡ Passes s next → Settled next
+    passes_settled e between = absurd (never_both between (fits_open _ _ (passes_fits e)))
 
-    pub closes-settled : {s : Section} {next : Reading} → seen file r ≡ Closes s next → Settled next
-    closes-settled e between =
-        ends-with-8 (reads_as file r.cursor.at.0 r.cursor.rest (known e).0) (closes-only _ _ (closes-judged e)).1
+    pub closes_settled : {s : Section} {next : Reading} → seen file r ≡ Closes s next → Settled next
+    closes_settled e between =
+        ends_with_8 (reads_as file r.cursor.at.0 r.cursor.rest (known e).0) (closes_only _ _ (closes_judged e)).1
 
 -- a section that first completes a submessage is seen again as the start of the next
 again_order : (t : Bool) (number : ℕ) (s : Section) (cursor : Cursor) → eqb number 8 ≡ t → {u : Section} {next : Reading}

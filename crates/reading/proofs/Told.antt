@@ -11,7 +11,7 @@ use Rattle.order.specs.declared.Order.{Order}
 use Rattle.order.specs.declared.Order.TheVariants.{SubmessageStart}
 use Rattle.order.specs.declared.Judged.{Judged}
 use Rattle.order.specs.declared.Judged.TheVariants as order
-use Rattle.order.proofs.Laws.{closes-only, no-grid-only, completes_only, starts-next}
+use Rattle.order.proofs.Laws.{closes_only, no_grid_only, completes_only, starts_next}
 use Rattle.framing.specs.Framing.{read_at}
 use Rattle.framing.specs.Listing.{Listing, listed_by}
 use Rattle.framing.specs.declared.read.Section.{Section}
@@ -85,29 +85,29 @@ unfolding judgement
 judges room r s true e =
     let only = completes_only r.order s.number e in
     let same : judged SubmessageStart s.number ≡ judged r.order s.number =
-    sym (starts-next s.number only.1) ∙ ap (λ (o : Order). judged o s.number) (sym only.0) in
+    sym (starts_next s.number only.1) ∙ ap (λ (o : Order). judged o s.number) (sym only.0) in
     rw (e, same)
 judges room r s false e = rw e
 
 -- what neither closes a message nor lacks a grid may complete a submessage
 closes_none : (before : Order) (number : ℕ) → judged before number ≡ order.Closes → completes before number ≡ false
 unfolding completes
-closes_none before number e = let only = closes-only before number e in rw (only.0, only.1)
+closes_none before number e = let only = closes_only before number e in rw (only.0, only.1)
 
 no_grid_none : (before : Order) (number : ℕ) → judged before number ≡ order.NoGrid → completes before number ≡ false
 unfolding completes
-no_grid_none before number e = let only = no-grid-only before number e in rw only.0
+no_grid_none before number e = let only = no_grid_only before number e in rw only.0
 
 module _ (file : List ℕ) (room : Room) (r : Reached) where
   -- a well-read section, by what the order says of it
-  by-order : (s : Section) (cursor : Cursor) (j : Judged) → judged r.order s.number ≡ j
+  by_order_lem : (s : Section) (cursor : Cursor) (j : Judged) → judged r.order s.number ≡ j
       → followed r s (completed (completes r.order s.number) room r (λ r' lines. by_order j room r' s lines))
       (λ r'. told_from file room r' cursor)
       ≡ told_by file room r (spec.seen_by_order j s cursor)
   unfolding by_order told_by spec.seen_by_order
-  by-order s cursor (order.Fits next) e = refl
-  by-order s cursor order.Closes e = rw (closes_none r.order s.number e)
-  by-order s cursor order.Misplaced e = stopping (completes r.order s.number)
+  by_order_lem s cursor (order.Fits next) e = refl
+  by_order_lem s cursor order.Closes e = rw (closes_none r.order s.number e)
+  by_order_lem s cursor order.Misplaced e = stopping (completes r.order s.number)
     where
       later : Reached → Told
       later r' = told_from file room r' cursor
@@ -122,7 +122,7 @@ module _ (file : List ℕ) (room : Room) (r : Reached) where
       stopping true =
           by_test (λ (j : Judgement). followed r s j later ≡ followed r s j later') (leb room.lines r.lines) (λ t. refl) (λ t. refl)
       stopping false = refl
-  by-order s cursor order.NoGrid e = rw (no_grid_none r.order s.number e)
+  by_order_lem s cursor order.NoGrid e = rw (no_grid_none r.order s.number e)
 
   -- the input over
   by_over : (t : Bool) → is_between r.order ≡ t
@@ -139,16 +139,16 @@ module _ (file : List ℕ) (room : Room) (r : Reached) where
   unfolding walked_from concluded told_from told_by spec.seen_by_read spec.over_in
   by_read (read.Section s cursor) same =
       ap (λ (j : Judgement). followed r s j (λ r'. told_from file room r' cursor)) (judges room r s _ refl)
-      ∙ by-order s cursor (judged r.order s.number) refl
+      ∙ by_order_lem s cursor (judged r.order s.number) refl
       ∙ ap (λ (j : Judged). told_by file room r (spec.seen_by_order j s cursor)) (sym (same s cursor refl))
   by_read read.Over same = by_over (is_between r.order) refl
   by_read (read.Refused fault offset) same = refl
 
   -- what a walk tells from a cursor on is what is seen there, and what it tells from there on
-  pub told-next : (cursor : Cursor) → spec.Settled (spec.reading cursor r.order)
+  pub told_next : (cursor : Cursor) → spec.Settled (spec.reading cursor r.order)
       → told_from file room r cursor ≡ told_by file room r (spec.seen file (spec.reading cursor r.order))
   unfolding spec.seen told_from
-  told-next cursor settled =
+  told_next cursor settled =
       ap (λ (l : Listing). walked_from room r l.sections l.ending) (listing_next file cursor.at.0 cursor.rest)
       ∙ by_read (read_at file cursor.at.0 cursor.rest)
       (λ s next e. as_judged file (spec.reading cursor r.order) settled e)

@@ -10,7 +10,7 @@ use borrow.Author.Tests.{lt-leb, le-ltb}
 use Rattle.order.specs.Order.{judged, completes, is_between}
 use Rattle.order.specs.declared.Order.{Order}
 use Rattle.order.specs.declared.Judged.TheVariants as order
-use Rattle.order.proofs.Laws.{fits-open, closes-only}
+use Rattle.order.proofs.Laws.{fits_open, closes_only}
 use Rattle.framing.proofs.Tests.{never_both}
 use Rattle.framing.specs.declared.read.Offset.{Offset}
 use Rattle.framing.specs.declared.read.Section.{Section}
@@ -33,17 +33,17 @@ use Rattle.reading.specs.declared.Seen.{Seen}
 use Rattle.reading.specs.declared.Seen.TheVariants as seen
 use Rattle.reading.proofs.Moves.{
   Stands,
-  passes-reads,
-  passes-stands,
-  passes-fits,
-  passes-settled,
-  closes-reads,
-  closes-stands,
-  closes-between,
-  closes-judged,
-  closes-settled,
+  passes_reads,
+  passes_stands,
+  passes_fits,
+  passes_settled,
+  closes_reads,
+  closes_stands,
+  closes_between,
+  closes_judged,
+  closes_settled,
 }
-use Rattle.reading.proofs.Told.{told_from, told_by, told-next, told_start}
+use Rattle.reading.proofs.Told.{told_from, told_by, told_next, told_start}
 
 -- what the walk tells from here on
 abbrev pub told_on : List ℕ → Reached → Cursor → Told
@@ -99,7 +99,7 @@ module _ (file : List ℕ) (fits : length file ≤ most_octets) (r : Reached) (c
   Sees v = seen file (reading cursor r.order) ≡ v
 
   tells : {v : Seen} → Sees v → told_on file r cursor ≡ told_by file unlimited r v
-  tells e = told-next file unlimited r cursor bounded.settled ∙ ap (told_by file unlimited r) e
+  tells e = told_next file unlimited r cursor bounded.settled ∙ ap (told_by file unlimited r) e
 
   rows : leb unlimited.rows r.sections ≡ false
   rows = lt-leb unlimited.rows r.sections (omega (arith, bounded.inside, fits))
@@ -129,15 +129,15 @@ module _ (file : List ℕ) (fits : length file ≤ most_octets) (r : Reached) (c
                 sections = omega (arith, bounded.sections, stands.forward, stands.later);
                 lines = omega (arith, bounded.lines);
                 inside = omega (arith, bounded.sections, stands.inside);
-                settled = passes-settled file (reading cursor r.order) bounded.settled e;
+                settled = passes_settled file (reading cursor r.order) bounded.settled e;
               };
-          is_read = reads_as file cursor.at.0 cursor.rest (passes-reads file (reading cursor r.order) e);
-          between = λ b. absurd (never_both b (fits-open r.order s.number (passes-fits file (reading cursor r.order) bounded.settled e)));
+          is_read = reads_as file cursor.at.0 cursor.rest (passes_reads file (reading cursor r.order) e);
+          between = λ b. absurd (never_both b (fits_open r.order s.number (passes_fits file (reading cursor r.order) bounded.settled e)));
           sections = ap (λ (t : Told). t.sections) (tells e) ∙ rw (c, lines, rows);
           outcome = ap (λ (t : Told). t.outcome) (tells e) ∙ rw (c, lines, rows);
           lines = line_of r.force GoesOn ∷ [];
           lined = refl;
-          moved = on_completing c (passes-fits file (reading cursor r.order) bounded.settled e);
+          moved = on_completing c (passes_fits file (reading cursor r.order) bounded.settled e);
           lines_told = ap (λ (t : Told). t.lines) (tells e) ∙ rw (c, lines, rows);
         }
     passing false c e =
@@ -159,21 +159,21 @@ module _ (file : List ℕ) (fits : length file ≤ most_octets) (r : Reached) (c
                 sections = omega (arith, bounded.sections, stands.forward, stands.later);
                 lines = omega (arith, bounded.lines);
                 inside = omega (arith, bounded.sections, stands.inside);
-                settled = passes-settled file (reading cursor r.order) bounded.settled e;
+                settled = passes_settled file (reading cursor r.order) bounded.settled e;
               };
-          is_read = reads_as file cursor.at.0 cursor.rest (passes-reads file (reading cursor r.order) e);
-          between = λ b. absurd (never_both b (fits-open r.order s.number (passes-fits file (reading cursor r.order) bounded.settled e)));
+          is_read = reads_as file cursor.at.0 cursor.rest (passes_reads file (reading cursor r.order) e);
+          between = λ b. absurd (never_both b (fits_open r.order s.number (passes_fits file (reading cursor r.order) bounded.settled e)));
           sections = ap (λ (t : Told). t.sections) (tells e) ∙ rw (c, rows);
           outcome = ap (λ (t : Told). t.outcome) (tells e) ∙ rw (c, rows);
           lines = [];
           lined = omega arith;
-          moved = on_within c (passes-fits file (reading cursor r.order) bounded.settled e);
+          moved = on_within c (passes_fits file (reading cursor r.order) bounded.settled e);
           lines_told = ap (λ (t : Told). t.lines) (tells e) ∙ rw (c, rows);
         }
 
-    closing-passes : Sees (seen.Closes s next) → Passes file r cursor s next
+    closing_passes : Sees (seen.Closes s next) → Passes file r cursor s next
     unfolding told_by closing
-    closing-passes e =
+    closing_passes e =
         record {
           q =
               record {
@@ -192,36 +192,36 @@ module _ (file : List ℕ) (fits : length file ≤ most_octets) (r : Reached) (c
                 sections = omega (arith, bounded.sections, stands.forward, stands.later);
                 lines = omega (arith, bounded.lines);
                 inside = omega (arith, bounded.sections, stands.inside);
-                settled = closes-settled file (reading cursor r.order) bounded.settled e;
+                settled = closes_settled file (reading cursor r.order) bounded.settled e;
               };
-          is_read = reads_as file cursor.at.0 cursor.rest (closes-reads file (reading cursor r.order) e);
-          between = λ b. (closes-only r.order s.number (closes-judged file (reading cursor r.order) bounded.settled e)).1;
-          sections = ap (λ (t : Told). t.sections) (tells e) ∙ rw (rows, lines, closes-between file (reading cursor r.order) e);
-          outcome = ap (λ (t : Told). t.outcome) (tells e) ∙ rw (rows, lines, closes-between file (reading cursor r.order) e);
+          is_read = reads_as file cursor.at.0 cursor.rest (closes_reads file (reading cursor r.order) e);
+          between = λ b. (closes_only r.order s.number (closes_judged file (reading cursor r.order) bounded.settled e)).1;
+          sections = ap (λ (t : Told). t.sections) (tells e) ∙ rw (rows, lines, closes_between file (reading cursor r.order) e);
+          outcome = ap (λ (t : Told). t.outcome) (tells e) ∙ rw (rows, lines, closes_between file (reading cursor r.order) e);
           lines = line_of r.force (ClosedAt (place r.sections)) ∷ [];
           lined = refl;
-          moved = on_closing (closes-judged file (reading cursor r.order) bounded.settled e);
-          lines_told = ap (λ (t : Told). t.lines) (tells e) ∙ rw (rows, lines, closes-between file (reading cursor r.order) e);
+          moved = on_closing (closes_judged file (reading cursor r.order) bounded.settled e);
+          lines_told = ap (λ (t : Told). t.lines) (tells e) ∙ rw (rows, lines, closes_between file (reading cursor r.order) e);
         }
 
   pub passes : {s : Section} {next : Reading} → Sees (seen.Passes s next) → Passes file r cursor s next
-  passes {s} {next} e = passing next (passes-stands file (reading cursor r.order) e) (completes r.order s.number) refl e
+  passes {s} {next} e = passing next (passes_stands file (reading cursor r.order) e) (completes r.order s.number) refl e
 
   pub closes : {s : Section} {next : Reading} → Sees (seen.Closes s next) → Passes file r cursor s next
-  closes {next = next} e = closing-passes next (closes-stands file (reading cursor r.order) e) e
+  closes {next = next} e = closing_passes next (closes_stands file (reading cursor r.order) e) e
 
   -- how it ends
   pub clean : Sees seen.Clean → Ends (told_on file r cursor) Clean
   unfolding told_by
   clean e = rw (tells e) (record { none = refl; outcome = refl })
 
-  pub clean-lines : Sees seen.Clean → (told_on file r cursor).lines ≡ []
+  pub clean_lines : Sees seen.Clean → (told_on file r cursor).lines ≡ []
   unfolding told_by
-  clean-lines e = rw (tells e)
+  clean_lines e = rw (tells e)
 
-  pub input-over : Sees seen.InputOver → Ends (told_on file r cursor) (Refused refusal.InputOver r.last.place r.last.section.offset)
+  pub input_over_lem : Sees seen.InputOver → Ends (told_on file r cursor) (Refused refusal.InputOver r.last.place r.last.section.offset)
   unfolding told_by
-  input-over e = rw (tells e) (record { none = refl; outcome = refl })
+  input_over_lem e = rw (tells e) (record { none = refl; outcome = refl })
 
   pub unreadable : {fault : Fault} {offset : Offset} → Sees (seen.Unreadable fault offset)
       → Ends (told_on file r cursor) (Refused (refusal.Unreadable fault) (place r.sections) offset)
@@ -236,9 +236,9 @@ module _ (file : List ℕ) (fits : length file ≤ most_octets) (r : Reached) (c
   pub misplaced : {s : Section} → Sees (seen.Misplaced s)
       → Ends (told_on file r cursor) (Refused (refusal.Misplaced s.number) (place r.sections) s.offset)
   unfolding told_by
-  misplaced {s} e = by-completing (completes r.order s.number) refl
+  misplaced {s} e = by_completing (completes r.order s.number) refl
     where
-      by-completing : (t : Bool) → completes r.order s.number ≡ t
+      by_completing : (t : Bool) → completes r.order s.number ≡ t
           → Ends (told_on file r cursor) (Refused (refusal.Misplaced s.number) (place r.sections) s.offset)
-      by-completing true c = rw (tells e, c, lines) (record { none = refl; outcome = refl })
-      by-completing false c = rw (tells e, c) (record { none = refl; outcome = refl })
+      by_completing true c = rw (tells e, c, lines) (record { none = refl; outcome = refl })
+      by_completing false c = rw (tells e, c) (record { none = refl; outcome = refl })

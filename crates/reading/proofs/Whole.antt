@@ -31,15 +31,15 @@ module _ (number len left least : ℕ) (of : least_payload_of number ≡ Octets 
   pub uncut : len ≤ left → is_cut number len left ≡ false
   unfolding is_cut
   uncut inside =
-      by-numbers (eqb number 7) (eqb number 6)
+      by_numbers (eqb number 7) (eqb number 6)
       (λ e. let one = of_6 number least of (eqb-true number 6 e) in le-ltb left 6 (omega arith))
     where
       -- by whether it is a section 7, and whether it is a section 6
-      by-numbers : (is-7 is-6 : Bool) → (is-6 ≡ true → ltb left 6 ≡ false)
-          → (not is-7 && (ltb left len || (is-6 && ltb left 6))) ≡ false
-      by-numbers true is-6 short = refl
-      by-numbers false true short = simp (le-ltb left len inside, short refl)
-      by-numbers false false short = simp (le-ltb left len inside)
+      by_numbers : (is_7 is-6 : Bool) → (is-6 ≡ true → ltb left 6 ≡ false)
+          → (not is_7 && (ltb left len || (is-6 && ltb left 6))) ≡ false
+      by_numbers true is-6 short = refl
+      by_numbers false true short = simp (le-ltb left len inside, short refl)
+      by_numbers false false short = simp (le-ltb left len inside)
 
   -- nothing is refused
   pub passes : is_cut number len left ≡ false → (at rest : ℕ) → len ≤ rest

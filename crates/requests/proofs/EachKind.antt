@@ -39,22 +39,22 @@ pick_by P false f g = g refl
 -- `W`; `n`, `m` and `size` are what its numbers say
 module _ (s : List ℕ) (at n m size : ℕ) (en : n ≡ be_at s (at + 1) 2) (em : m ≡ be_at s (at + 3) 2)
     (es : size ≡ be_at s (at + 5) 4) where
-  pub walk-cut : length s < at + 9 + size → Bad ≡ walk_request_at s at
+  pub walk_cut : length s < at + 9 + size → Bad ≡ walk_request_at s at
   unfolding walk_request_at
-  walk-cut h = simp (← es, lt-ltb _ _ h)
+  walk_cut h = simp (← es, lt-ltb _ _ h)
 
-  pub walk-numbers-over : at + 9 + size ≤ length s → 6144 < n → Bad ≡ walk_request_at s at
+  pub walk_numbers_over : at + 9 + size ≤ length s → 6144 < n → Bad ≡ walk_request_at s at
   unfolding walk_request_at
-  walk-numbers-over h o = simp (← es, ← en, le-ltb _ _ h, lt-ltb _ _ o)
+  walk_numbers_over h o = simp (← es, ← en, le-ltb _ _ h, lt-ltb _ _ o)
 
-  pub walk-lines-over : at + 9 + size ≤ length s → n ≤ 6144 → 512 < m → Bad ≡ walk_request_at s at
+  pub walk_lines_over : at + 9 + size ≤ length s → n ≤ 6144 → 512 < m → Bad ≡ walk_request_at s at
   unfolding walk_request_at
-  walk-lines-over h k o = simp (← es, ← en, ← em, le-ltb _ _ h, le-ltb _ _ k, lt-ltb _ _ o)
+  walk_lines_over h k o = simp (← es, ← en, ← em, le-ltb _ _ h, le-ltb _ _ k, lt-ltb _ _ o)
 
-  pub walk-whole : at + 9 + size ≤ length s → n ≤ 6144 → m ≤ 512
+  pub walk_whole : at + 9 + size ≤ length s → n ≤ 6144 → m ≤ 512
       → Walk n m (at + 9) (at + 9 + size) ≡ walk_request_at s at
   unfolding walk_request_at
-  walk-whole h k l = simp (← es, ← en, ← em, le-ltb _ _ h, le-ltb _ _ k, le-ltb _ _ l)
+  walk_whole h k l = simp (← es, ← en, ← em, le-ltb _ _ h, le-ltb _ _ k, le-ltb _ _ l)
 
 pub walk_stands : (s : List ℕ) (at : ℕ) → Stands s at (walk_request_at s at)
 unfolding walk_request_at
@@ -70,36 +70,36 @@ walk_stands s at =
 
 -- `P`
 module _ (s : List ℕ) (at : ℕ) where
-  pub pull-cut : length s < at + 5 + be_at s (at + 1) 4 → Bad ≡ pull_request_at s at
+  pub pull_cut : length s < at + 5 + be_at s (at + 1) 4 → Bad ≡ pull_request_at s at
   unfolding pull_request_at
-  pull-cut h = simp (lt-ltb _ _ h)
+  pull_cut h = simp (lt-ltb _ _ h)
 
-  pub pull-whole : (size : ℕ) → size ≡ be_at s (at + 1) 4 → at + 5 + size ≤ length s
+  pub pull_whole : (size : ℕ) → size ≡ be_at s (at + 1) 4 → at + 5 + size ≤ length s
       → Pull (at + 5) (at + 5 + size) ≡ pull_request_at s at
   unfolding pull_request_at
-  pull-whole size e h = simp (← e, le-ltb _ _ h)
+  pull_whole size e h = simp (← e, le-ltb _ _ h)
 
-  pub pull-stands : Stands s at (pull_request_at s at)
+  pub pull_stands : Stands s at (pull_request_at s at)
   unfolding pull_request_at
-  pull-stands =
+  pull_stands =
       pick_by (Stands s at) (ltb (length s) (at + 5 + be_at s (at + 1) 4)) (λ e. tt) (λ e.
       record { behind = omega arith; ordered = omega arith; within = ltb-false _ _ e })
 
 -- `C` and `I`; `d` and `size` are what its numbers say
 module _ (kind : ℕ → ℕ → ℕ → Request) (s : List ℕ) (at d size : ℕ) (ed : d ≡ be_at s (at + 1) 4)
     (es : size ≡ be_at s (at + 5) 4) where
-  pub into-cut : length s < at + 9 + size → Bad ≡ into_request_at kind s at
+  pub into_cut : length s < at + 9 + size → Bad ≡ into_request_at kind s at
   unfolding into_request_at
-  into-cut h = simp (← es, lt-ltb _ _ h)
+  into_cut h = simp (← es, lt-ltb _ _ h)
 
-  pub into-room-over : at + 9 + size ≤ length s → 262144 < d → Bad ≡ into_request_at kind s at
+  pub into_room_over : at + 9 + size ≤ length s → 262144 < d → Bad ≡ into_request_at kind s at
   unfolding into_request_at
-  into-room-over h o = simp (← es, ← ed, le-ltb _ _ h, lt-ltb _ _ o)
+  into_room_over h o = simp (← es, ← ed, le-ltb _ _ h, lt-ltb _ _ o)
 
-  pub into-whole : at + 9 + size ≤ length s → d ≤ 262144
+  pub into_whole : at + 9 + size ≤ length s → d ≤ 262144
       → kind d (at + 9) (at + 9 + size) ≡ into_request_at kind s at
   unfolding into_request_at
-  into-whole h k = simp (← es, ← ed, le-ltb _ _ h, le-ltb _ _ k)
+  into_whole h k = simp (← es, ← ed, le-ltb _ _ h, le-ltb _ _ k)
 
 -- so of any kind whose requests stand where their room and their octets do
 into_stands : (kind : ℕ → ℕ → ℕ → Request) (s : List ℕ) (at : ℕ)
@@ -125,14 +125,14 @@ inventory_stands s at = into_stands Inventory s at (λ d from to h. h)
 module _ (s : List ℕ) (at k size d : ℕ) (ek : k ≡ be_at s (at + 4) 2)
     (es : size ≡ be_at s (at + 6 + k * 24) 4)
     (ed : d ≡ be_at s (at + 6 + k * 24 + 4 + size) 4) where
-  pub write-cut : length s < at + 6 + k * 24 + 4 + size + 4 → Bad ≡ write_request_at s at
+  pub write_cut : length s < at + 6 + k * 24 + 4 + size + 4 → Bad ≡ write_request_at s at
   unfolding write_request_at
-  write-cut h = simp (← ek, ← es, lt-ltb _ _ h)
+  write_cut h = simp (← ek, ← es, lt-ltb _ _ h)
 
-  pub write-room-over : at + 6 + k * 24 + 4 + size + 4 ≤ length s → 262144 < d
+  pub write_room_over : at + 6 + k * 24 + 4 + size + 4 ≤ length s → 262144 < d
       → Bad ≡ write_request_at s at
   unfolding write_request_at
-  write-room-over h o = simp (← ek, ← es, ← ed, le-ltb _ _ h, lt-ltb _ _ o)
+  write_room_over h o = simp (← ek, ← es, ← ed, le-ltb _ _ h, lt-ltb _ _ o)
 
   -- a message to be written, whose places follow from these numbers
   abbrev pub written : Writing
@@ -149,10 +149,10 @@ module _ (s : List ℕ) (at k size d : ℕ) (ek : k ≡ be_at s (at + 4) 2)
         to = at + 6 + k * 24 + 4 + size + 4;
       }
 
-  pub write-whole : at + 6 + k * 24 + 4 + size + 4 ≤ length s → d ≤ 262144
+  pub write_whole : at + 6 + k * 24 + 4 + size + 4 ≤ length s → d ≤ 262144
       → Write written ≡ write_request_at s at
   unfolding write_request_at
-  write-whole h l = simp (← ek, ← es, ← ed, le-ltb _ _ h, le-ltb _ _ l)
+  write_whole h l = simp (← ek, ← es, ← ed, le-ltb _ _ h, le-ltb _ _ l)
 
 pub write_stands : (s : List ℕ) (at : ℕ) → Stands s at (write_request_at s at)
 unfolding write_request_at
@@ -180,10 +180,10 @@ module _ (kind : ℕ → ℕ → ℕ → Request) (s : List ℕ) (at size : ℕ)
   unfolding payload_request_at
   payload_cut h = simp (← es, lt-ltb _ _ h)
 
-  pub payload-whole : at + 6 + size ≤ length s
+  pub payload_whole : at + 6 + size ≤ length s
       → kind (get_or s (at + 1) 0) (at + 6) (at + 6 + size) ≡ payload_request_at kind s at
   unfolding payload_request_at
-  payload-whole h = simp (← es, le-ltb _ _ h)
+  payload_whole h = simp (← es, le-ltb _ _ h)
 
 -- so of any kind whose requests stand where their octets do
 payload_stands : (kind : ℕ → ℕ → ℕ → Request) (s : List ℕ) (at : ℕ)
@@ -214,32 +214,32 @@ module _ (s : List ℕ) (at : ℕ) where
   unfolding signed_request_at
   signed_cut h = simp (lt-ltb _ _ h)
 
-  pub signed-whole : at + 2 + get_or s (at + 1) 0 ≤ length s
+  pub signed_whole : at + 2 + get_or s (at + 1) 0 ≤ length s
       → Signed (at + 2) (at + 2 + get_or s (at + 1) 0) ≡ signed_request_at s at
   unfolding signed_request_at
-  signed-whole h = simp (le-ltb _ _ h)
+  signed_whole h = simp (le-ltb _ _ h)
 
-  pub signed-stands : Stands s at (signed_request_at s at)
+  pub signed_stands : Stands s at (signed_request_at s at)
   unfolding signed_request_at
-  signed-stands =
+  signed_stands =
       pick_by (Stands s at) (ltb (length s) (at + 2 + get_or s (at + 1) 0)) (λ e. tt) (λ e.
       record { behind = omega arith; ordered = omega arith; within = ltb-false _ _ e })
 
 -- `R`; `m` and `size` are what its numbers say
 module _ (s : List ℕ) (at m size : ℕ) (em : m ≡ be_at s (at + 1) 2)
     (es : size ≡ be_at s (at + 3) 4) where
-  pub list-cut : length s < at + 7 + size → Bad ≡ list_request_at s at
+  pub list_cut : length s < at + 7 + size → Bad ≡ list_request_at s at
   unfolding list_request_at
-  list-cut h = simp (← es, lt-ltb _ _ h)
+  list_cut h = simp (← es, lt-ltb _ _ h)
 
-  pub list-room-over : at + 7 + size ≤ length s → 512 < m → Bad ≡ list_request_at s at
+  pub list_room_over : at + 7 + size ≤ length s → 512 < m → Bad ≡ list_request_at s at
   unfolding list_request_at
-  list-room-over h o = simp (← es, ← em, le-ltb _ _ h, lt-ltb _ _ o)
+  list_room_over h o = simp (← es, ← em, le-ltb _ _ h, lt-ltb _ _ o)
 
-  pub list-whole : at + 7 + size ≤ length s → m ≤ 512
+  pub list_whole : at + 7 + size ≤ length s → m ≤ 512
       → request.List m (at + 7) (at + 7 + size) ≡ list_request_at s at
   unfolding list_request_at
-  list-whole h k = simp (← es, ← em, le-ltb _ _ h, le-ltb _ _ k)
+  list_whole h k = simp (← es, ← em, le-ltb _ _ h, le-ltb _ _ k)
 
 pub list_stands : (s : List ℕ) (at : ℕ) → Stands s at (list_request_at s at)
 unfolding list_request_at
@@ -253,20 +253,20 @@ list_stands s at =
 
 -- `O`
 module _ (s : List ℕ) (at : ℕ) where
-  pub offsets-cut : length s < at + 4 → Bad ≡ offsets_request_at s at
+  pub offsets_cut : length s < at + 4 → Bad ≡ offsets_request_at s at
   unfolding offsets_request_at
-  offsets-cut h = simp (lt-ltb _ _ h)
+  offsets_cut h = simp (lt-ltb _ _ h)
 
-  pub offsets-read : (reading : MaybeReading) (template : ℕ)
+  pub offsets_read : (reading : MaybeReading) (template : ℕ)
       → reading ≡ reading_of (get_or s (at + 1) 0) → template ≡ be_at s (at + 2) 2
       → at + 4 ≤ length s
       → (read_by reading λ by. Offsets by template (at + 4)) ≡ offsets_request_at s at
   unfolding offsets_request_at
-  offsets-read reading template k e h = simp (← k, ← e, le-ltb _ _ h)
+  offsets_read reading template k e h = simp (← k, ← e, le-ltb _ _ h)
 
-  pub offsets-stands : Stands s at (offsets_request_at s at)
+  pub offsets_stands : Stands s at (offsets_request_at s at)
   unfolding offsets_request_at
-  offsets-stands =
+  offsets_stands =
       pick_by (Stands s at) (ltb (length s) (at + 4)) (λ e. tt) (λ e.
       read_by_lem s at (λ by. Offsets by (be_at s (at + 2) 2) (at + 4)) (reading_of (get_or s (at + 1) 0))
       (λ by. record { later = omega arith; inside = ltb-false _ _ e }))

@@ -12,9 +12,9 @@ use Rattle.requests.specs.declared.Request.TheVariants.{Fields, Signed, Inventor
 use Rattle.requests.specs.declared.Request.TheVariants.{Offsets, WhenWhere, Bad}
 use Rattle.requests.specs.declared.Request.TheVariants as request
 use Rattle.requests.proofs.Stands.{Stands, Goes}
-use Rattle.requests.proofs.EachKind.{pick_by, walk_stands, pull-stands, copy_stands}
-use Rattle.requests.proofs.EachKind.{write_stands, fields_stands, signed-stands}
-use Rattle.requests.proofs.EachKind.{inventory_stands, list_stands, offsets-stands}
+use Rattle.requests.proofs.EachKind.{pick_by, walk_stands, pull_stands, copy_stands}
+use Rattle.requests.proofs.EachKind.{write_stands, fields_stands, signed_stands}
+use Rattle.requests.proofs.EachKind.{inventory_stands, list_stands, offsets_stands}
 use Rattle.requests.proofs.EachKind.{when_where_stands}
 
 -- every kind
@@ -23,14 +23,14 @@ unfolding request_at
 stands s at =
     pick_by (Stands s at) (leb (length s) at) (λ e. tt) (λ e.
     pick_by (Stands s at) (eqb (get_or s at 0) 87) (λ e. walk_stands s at) (λ e.
-    pick_by (Stands s at) (eqb (get_or s at 0) 80) (λ e. pull-stands s at) (λ e.
+    pick_by (Stands s at) (eqb (get_or s at 0) 80) (λ e. pull_stands s at) (λ e.
     pick_by (Stands s at) (eqb (get_or s at 0) 67) (λ e. copy_stands s at) (λ e.
     pick_by (Stands s at) (eqb (get_or s at 0) 77) (λ e. write_stands s at) (λ e.
     pick_by (Stands s at) (eqb (get_or s at 0) 70) (λ e. fields_stands s at) (λ e.
-    pick_by (Stands s at) (eqb (get_or s at 0) 83) (λ e. signed-stands s at) (λ e.
+    pick_by (Stands s at) (eqb (get_or s at 0) 83) (λ e. signed_stands s at) (λ e.
     pick_by (Stands s at) (eqb (get_or s at 0) 73) (λ e. inventory_stands s at) (λ e.
     pick_by (Stands s at) (eqb (get_or s at 0) 82) (λ e. list_stands s at) (λ e.
-    pick_by (Stands s at) (eqb (get_or s at 0) 79) (λ e. offsets-stands s at) (λ e.
+    pick_by (Stands s at) (eqb (get_or s at 0) 79) (λ e. offsets_stands s at) (λ e.
     pick_by (Stands s at) (eqb (get_or s at 0) 84) (λ e. when_where_stands s at) (λ e. tt)))))))))))
 
 -- the request that was read

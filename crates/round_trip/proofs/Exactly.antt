@@ -46,38 +46,38 @@ module _ (parts : List Part) (store room : ℕ) where
   abbrev ending : Written
   ending = pick (ltb room (total_of parts)) NoRoom (pick (ltb most_octets (total_of parts)) NoRoom (Whole (total_of parts)))
 
-  abbrev from-18 : Finding → Written
-  from-18 c = unless c PayloadSize ending
+  abbrev from_18 : Finding → Written
+  from_18 c = unless c PayloadSize ending
 
-  abbrev from-17 : Finding → Written
-  from-17 c = unless c OutsideStore (from-18 (first_at is_wrong_size 0 parts))
+  abbrev from_17 : Finding → Written
+  from_17 c = unless c OutsideStore (from_18 (first_at is_wrong_size 0 parts))
 
-  abbrev from-16 : Finding → Written
-  from-16 c = unless c NotOneMessage (from-17 (first_at (is_outside store) 0 parts))
+  abbrev from_16 : Finding → Written
+  from_16 c = unless c NotOneMessage (from_17 (first_at (is_outside store) 0 parts))
 
   -- what is answered is due
   given : Given (judged_plan parts store room)
   unfolding judged_plan
   given =
       by_test Given (ltb most_sections (length parts)) (λ e. ltb-true _ _ e) λ e.
-      given-16 (ltb-false most_sections (length parts) e) (misfit parts) refl
+      given_16 (ltb-false most_sections (length parts) e) (misfit parts) refl
     where
-      given-18 : length parts ≤ most_sections → OneMessage parts → AtNone (Outside store) parts → (c : Finding) → first_at is_wrong_size 0 parts ≡ c
-          → Given (from-18 c)
-      given-18 few one inside (fault_at at) e = (few, one, inside, (wrong_iff at.0 parts).0 e)
-      given-18 few one inside no_fault e =
+      given_18 : length parts ≤ most_sections → OneMessage parts → AtNone (Outside store) parts → (c : Finding) → first_at is_wrong_size 0 parts ≡ c
+          → Given (from_18 c)
+      given_18 few one inside (fault_at at) e = (few, one, inside, (wrong_iff at.0 parts).0 e)
+      given_18 few one inside no_fault e =
           let sized = (sized_iff parts).0 e in
           by_test Given (ltb room (total_of parts)) (λ x. (few, one, inside, sized, inl (ltb-true _ _ x))) λ x.
           by_test Given (ltb most_octets (total_of parts)) (λ y. (few, one, inside, sized, inr (ltb-true _ _ y))) λ y.
           (few, one, inside, sized, ltb-false _ _ x, ltb-false _ _ y, refl)
 
-      given-17 : length parts ≤ most_sections → OneMessage parts → (c : Finding) → first_at (is_outside store) 0 parts ≡ c → Given (from-17 c)
-      given-17 few one (fault_at at) e = (few, one, (outside_iff store at.0 parts).0 e)
-      given-17 few one no_fault e = given-18 few one ((inside_iff store parts).0 e) (first_at is_wrong_size 0 parts) refl
+      given_17 : length parts ≤ most_sections → OneMessage parts → (c : Finding) → first_at (is_outside store) 0 parts ≡ c → Given (from_17 c)
+      given_17 few one (fault_at at) e = (few, one, (outside_iff store at.0 parts).0 e)
+      given_17 few one no_fault e = given_18 few one ((inside_iff store parts).0 e) (first_at is_wrong_size 0 parts) refl
 
-      given-16 : length parts ≤ most_sections → (c : Finding) → misfit parts ≡ c → Given (from-16 c)
-      given-16 few (fault_at at) e = (few, (misfit_iff at.0 parts).0 e)
-      given-16 few no_fault e = given-17 few ((message_iff parts).0 e) (first_at (is_outside store) 0 parts) refl
+      given_16 : length parts ≤ most_sections → (c : Finding) → misfit parts ≡ c → Given (from_16 c)
+      given_16 few (fault_at at) e = (few, (misfit_iff at.0 parts).0 e)
+      given_16 few no_fault e = given_17 few ((message_iff parts).0 e) (first_at (is_outside store) 0 parts) refl
 
   -- and what is due is answered
   due : (w : Written) → Given w → judged_plan parts store room ≡ w
@@ -132,41 +132,41 @@ module _ (discipline reserved₁ reserved₂ : ℕ) (plan store dest : List ℕ)
   )
 
   -- 15: the plan has over 4,096 sections
-  pub exactly-15 : Iff (answer ≡ TooManySections) (most_sections < length parts)
-  exactly-15 = exactly TooManySections
+  pub exactly_15 : Iff (answer ≡ TooManySections) (most_sections < length parts)
+  exactly_15 = exactly TooManySections
 
   -- 16: its numbers, with 0 before and 8 after, are not one message
-  pub exactly-16-some : Iff ((at : ℕ) × (answer ≡ NotOneMessage (plan_place at))) ((length parts ≤ most_sections) × (OneMessage parts → ⊥))
-  exactly-16-some = (
+  pub exactly_16_some : Iff ((at : ℕ) × (answer ≡ NotOneMessage (plan_place at))) ((length parts ≤ most_sections) × (OneMessage parts → ⊥))
+  exactly_16_some = (
     (λ s. let g = (exactly (NotOneMessage (plan_place s.0))).0 s.1 in (g.0, (not_one_iff parts).0 (s.0, g.1))),
     λ h. let m = (not_one_iff parts).1 h.1 in (m.0, (exactly (NotOneMessage (plan_place m.0))).1 (h.0, m.1)),
   )
 
   -- and the place is that of the first that misfits
-  pub exactly-16 : (at : ℕ) → Iff (answer ≡ NotOneMessage (plan_place at)) ((length parts ≤ most_sections) × FirstMisfit parts at)
-  exactly-16 at = exactly (NotOneMessage (plan_place at))
+  pub exactly_16 : (at : ℕ) → Iff (answer ≡ NotOneMessage (plan_place at)) ((length parts ≤ most_sections) × FirstMisfit parts at)
+  exactly_16 at = exactly (NotOneMessage (plan_place at))
 
   -- 17: a payload part's offset plus length is over the store's length; the first such
-  pub exactly-17 : (at : ℕ)
+  pub exactly_17 : (at : ℕ)
       → Iff (answer ≡ OutsideStore (plan_place at)) ((length parts ≤ most_sections) × OneMessage parts × FirstAt (Outside (length store)) parts at)
-  exactly-17 at = exactly (OutsideStore (plan_place at))
+  exactly_17 at = exactly (OutsideStore (plan_place at))
 
   -- 18: a payload is under its least or over 4,294,967,290; the first such
-  pub exactly-18 : (at : ℕ)
+  pub exactly_18 : (at : ℕ)
       → Iff (answer ≡ PayloadSize (plan_place at))
       ((length parts ≤ most_sections) × OneMessage parts × AtNone (Outside (length store)) parts × FirstAt WrongSize parts at)
-  exactly-18 at = exactly (PayloadSize (plan_place at))
+  exactly_18 at = exactly (PayloadSize (plan_place at))
 
   -- 19: the destination is shorter than the message, or the message over 2^40 octets
-  pub exactly-19 :
+  pub exactly_19 :
       Iff (answer ≡ NoRoom)
       ((length parts ≤ most_sections) × OneMessage parts × AtNone (Outside (length store)) parts × AtNone WrongSize parts
       × TooLarge parts (length dest))
-  exactly-19 = exactly NoRoom
+  exactly_19 = exactly NoRoom
 
   -- success: none of these, and the total is the message's
-  pub exactly-whole : (total : ℕ)
+  pub exactly_whole : (total : ℕ)
       → Iff (answer ≡ Whole total)
       ((length parts ≤ most_sections) × OneMessage parts × AtNone (Outside (length store)) parts × AtNone WrongSize parts
       × (total_of parts ≤ length dest) × (total_of parts ≤ most_octets) × (total ≡ total_of parts))
-  exactly-whole total = exactly (Whole total)
+  exactly_whole total = exactly (Whole total)

@@ -30,11 +30,11 @@ module _ (faulty : Part → Bool) (Faulty : Part → Type 0) (dec : Decides faul
       go zero below fault = sound fault
       go (suc k) below fault = first.before k (omega arith) fault
 
-  is-first : (from at : ℕ) (parts : List Part) → first_at faulty from parts ≡ fault_at (plan_place at)
+  is_first : (from at : ℕ) (parts : List Part) → first_at faulty from parts ≡ fault_at (plan_place at)
       → (j : ℕ) × (at ≡ from + j) × FirstAt Faulty parts j
   unfolding first_at
-  is-first from at [] e = absurd (let z : ◌≡◌ {A = ℕ} 0 1 = cc in omega arith)
-  is-first from at (part ∷ more) e = go (faulty part) refl e (is-first (from + 1) at more)
+  is_first from at [] e = absurd (let z : ◌≡◌ {A = ℕ} 0 1 = cc in omega arith)
+  is_first from at (part ∷ more) e = go (faulty part) refl e (is_first (from + 1) at more)
     where
       go : (t : Bool) → faulty part ≡ t → pick t (fault_at (plan_place from)) (first_at faulty (from + 1) more) ≡ fault_at (plan_place at)
           → (first_at faulty (from + 1) more ≡ fault_at (plan_place at) → (j : ℕ) × (at ≡ from + 1 + j) × FirstAt Faulty more j)
@@ -47,10 +47,10 @@ module _ (faulty : Part → Bool) (Faulty : Part → Type 0) (dec : Decides faul
           let sum = r.1 in
           (suc r.0, omega arith, later part more r.0 (dec.is_not part sound) r.2)
 
-  first-is : (from j : ℕ) (parts : List Part) → FirstAt Faulty parts j → first_at faulty from parts ≡ fault_at (plan_place (from + j))
+  first_is : (from j : ℕ) (parts : List Part) → FirstAt Faulty parts j → first_at faulty from parts ≡ fault_at (plan_place (from + j))
   unfolding first_at
-  first-is from j [] first = absurd (let i = first.inside in omega arith)
-  first-is from j (part ∷ more) first = go (faulty part) refl j first (λ i. first-is (from + 1) i more)
+  first_is from j [] first = absurd (let i = first.inside in omega arith)
+  first_is from j (part ∷ more) first = go (faulty part) refl j first (λ i. first_is (from + 1) i more)
     where
       go : (t : Bool) → faulty part ≡ t → (j : ℕ) → FirstAt Faulty (part ∷ more) j
           → ((i : ℕ) → FirstAt Faulty more i → first_at faulty (from + 1) more ≡ fault_at (plan_place (from + 1 + i)))
@@ -88,17 +88,17 @@ module _ (faulty : Part → Bool) (Faulty : Part → Type 0) (dec : Decides faul
       go true fault e = absurd (none 0 (omega arith) (dec.is part fault))
       go false sound e = e
 
-  first-iff : (at : ℕ) (parts : List Part) → Iff (first_at faulty 0 parts ≡ fault_at (plan_place at)) (FirstAt Faulty parts at)
-  first-iff at parts = (
+  first_iff : (at : ℕ) (parts : List Part) → Iff (first_at faulty 0 parts ≡ fault_at (plan_place at)) (FirstAt Faulty parts at)
+  first_iff at parts = (
     (λ e.
-        let r = is-first 0 at parts e in
+        let r = is_first 0 at parts e in
         let same : r.0 ≡ at = let sum = r.1 in omega arith in
         subst (FirstAt Faulty parts) same r.2),
-    λ first. first-is 0 at parts first ∙ ap (λ (n : ℕ). fault_at (plan_place n)) (let sum : 0 + at ≡ at = omega arith in sum),
+    λ first. first_is 0 at parts first ∙ ap (λ (n : ℕ). fault_at (plan_place n)) (let sum : 0 + at ≡ at = omega arith in sum),
   )
 
-  nowhere-iff : (parts : List Part) → Iff (first_at faulty 0 parts ≡ no_fault) (AtNone Faulty parts)
-  nowhere-iff parts = (passed_none 0 parts, none_passed 0 parts)
+  nowhere_iff : (parts : List Part) → Iff (first_at faulty 0 parts ≡ no_fault) (AtNone Faulty parts)
+  nowhere_iff parts = (passed_none 0 parts, none_passed 0 parts)
 
 -- 17
 outside_decides : (store : ℕ) → Decides (is_outside store) (Outside store)
@@ -137,13 +137,13 @@ size_decides = record { is = wrong_is; is_not = not_wrong }
 
 pub outside_iff : (store at : ℕ) (parts : List Part)
     → Iff (first_at (is_outside store) 0 parts ≡ fault_at (plan_place at)) (FirstAt (Outside store) parts at)
-outside_iff store = first-iff (is_outside store) (Outside store) (outside_decides store)
+outside_iff store = first_iff (is_outside store) (Outside store) (outside_decides store)
 
 pub inside_iff : (store : ℕ) (parts : List Part) → Iff (first_at (is_outside store) 0 parts ≡ no_fault) (AtNone (Outside store) parts)
-inside_iff store = nowhere-iff (is_outside store) (Outside store) (outside_decides store)
+inside_iff store = nowhere_iff (is_outside store) (Outside store) (outside_decides store)
 
 pub wrong_iff : (at : ℕ) (parts : List Part) → Iff (first_at is_wrong_size 0 parts ≡ fault_at (plan_place at)) (FirstAt WrongSize parts at)
-wrong_iff = first-iff is_wrong_size WrongSize size_decides
+wrong_iff = first_iff is_wrong_size WrongSize size_decides
 
 pub sized_iff : (parts : List Part) → Iff (first_at is_wrong_size 0 parts ≡ no_fault) (AtNone WrongSize parts)
-sized_iff = nowhere-iff is_wrong_size WrongSize size_decides
+sized_iff = nowhere_iff is_wrong_size WrongSize size_decides

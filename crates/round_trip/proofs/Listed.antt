@@ -28,12 +28,12 @@ use Rattle.round_trip.specs.ReadBack.{listed_as, sections_from, message_sections
 use Rattle.round_trip.proofs.Numbers.{be_behind, be_digits}
 
 -- the plan's sections from an offset on, and section 8
-unfoldable pub to_end : ℕ → List Part → List Section
-to_end at [] = listed_as 8 at 4 ∷ []
-to_end at (part ∷ more) = listed_as part.number at (part.length + 5) ∷ to_end (at + (part.length + 5)) more
+unfoldable pub to_end_lem : ℕ → List Part → List Section
+to_end_lem at [] = listed_as 8 at 4 ∷ []
+to_end_lem at (part ∷ more) = listed_as part.number at (part.length + 5) ∷ to_end_lem (at + (part.length + 5)) more
 
-pub to_end_lem : (at : ℕ) (parts : List Part) → to_end at parts ≡ sections_from at parts ++ (listed_as 8 (at + sections_size parts) 4 ∷ [])
-unfolding to_end sections_from sections_size
+pub to_end_lem : (at : ℕ) (parts : List Part) → to_end_lem at parts ≡ sections_from at parts ++ (listed_as 8 (at + sections_size parts) 4 ∷ [])
+unfolding to_end_lem sections_from sections_size
 to_end_lem at [] = rw add-zero
 to_end_lem at (part ∷ more) = rw (to_end_lem (at + (part.length + 5)) more, add_assoc at (part.length + 5) (sections_size more))
 
@@ -108,13 +108,13 @@ module _ (store front later : List ℕ) (part : Part) (sound : Sound (length sto
   long : length file ≡ length front + (part.length + 5 + length later)
   long = rw (length-append front (section_octets part store ++ later), length-append (section_octets part store) later, length_section store part sound)
 
-  number-there : get_or file (length front + 4) 0 ≡ part.number
-  number-there =
+  number_there : get_or file (length front + 4) 0 ≡ part.number
+  number_there =
       get_or-append-add front (section_octets part store ++ later) 4 0
       ∙ rw split (get_or_at (digits 4 (part.length + 5)) part.number (payload ++ later) 0 4 (length_digits 4 (part.length + 5)))
 
-  length-there : be_at file (length front) 4 ≡ part.length + 5
-  length-there =
+  length_there : be_at file (length front) 4 ≡ part.length + 5
+  length_there =
       let small = sound.not_long in
       let e : be_at file (length front + 0) 4 ≡ part.length + 5 =
       be_behind front (section_octets part store ++ later) 0 4
@@ -131,9 +131,9 @@ module _ (store front later : List ℕ) (part : Part) (sound : Sound (length sto
         lt-leb (length file) (length front) (omega arith),
         ne_eqb rest 4 (λ e. omega arith),
         le-ltb (length file - length front) 5 (omega arith),
-        length-there,
+        length_there,
         le-ltb (part.length + 5) 5 (omega arith),
-        number-there,
+        number_there,
       )
       (payload_there part.number sound.least (length front) part.length (length file - length front) rest sound.of_kind
       sound.not_short (omega arith) (omega arith))
@@ -141,8 +141,8 @@ module _ (store front later : List ℕ) (part : Part) (sound : Sound (length sto
 -- the sections and section 8, behind any octets
 body_listed : (store front : List ℕ) (parts : List Part) → AllSound (length store) parts
     → listing_on (front ++ body_octets parts store) (length front) (sections_size parts + 4)
-    ≡ record { sections = to_end (length front) parts; ending = over }
-unfolding body_octets sections_size to_end
+    ≡ record { sections = to_end_lem (length front) parts; ending = over }
+unfolding body_octets sections_size to_end_lem
 body_listed store front [] none =
     let file = front ++ end in
     let long : length file ≡ length front + 4 = length-append front end in
@@ -161,10 +161,10 @@ body_listed store front (part ∷ more) (one head tail) =
     let long : length (front ++ here) ≡ length front + (part.length + 5) =
     length-append front here ∙ rw (length_section store part head) in
     let ih : listing_on ((front ++ here) ++ later) (length (front ++ here)) (sections_size more + 4)
-    ≡ record { sections = to_end (length (front ++ here)) more; ending = over } =
+    ≡ record { sections = to_end_lem (length (front ++ here)) more; ending = over } =
     body_listed store (front ++ here) more tail in
     let after : listing_on file (length front + (part.length + 5)) (sections_size more + 4)
-    ≡ record { sections = to_end (length front + (part.length + 5)) more; ending = over } =
+    ≡ record { sections = to_end_lem (length front + (part.length + 5)) more; ending = over } =
     rw (append_assoc front here later, long) at ih in
     rw (listing_next file (length front) rest, section_there store front later part head rest (omega arith), left, after)
 
@@ -176,34 +176,34 @@ starts_there file starts some =
     rw (more, start_among, starts)
 
 module _ (discipline reserved₁ reserved₂ total : ℕ) (later : List ℕ) where
-  abbrev whole-file : List ℕ
-  whole-file = indicator_octets discipline reserved₁ reserved₂ total ++ later
+  abbrev whole_file : List ℕ
+  whole_file = indicator_octets discipline reserved₁ reserved₂ total ++ later
 
-  long-file : length whole-file ≡ 16 + length later
-  long-file =
+  long_file : length whole_file ≡ 16 + length later
+  long_file =
       rw (length-append (indicator_octets discipline reserved₁ reserved₂ total) later, length_indicator discipline reserved₁ reserved₂ total)
 
-  grib : starts_at whole-file 0 ≡ true
+  grib : starts_at whole_file 0 ≡ true
   unfolding starts_at says indicator_octets
-  grib = let long = long-file in rw (le-leb (0 + 16) (length whole-file) (omega arith))
+  grib = let long = long_file in rw (le-leb (0 + 16) (length whole_file) (omega arith))
 
-  sum-there : total < 256 ^ 8 → be_at whole-file 8 8 ≡ total
+  sum_there : total < 256 ^ 8 → be_at whole_file 8 8 ≡ total
   unfolding indicator_octets
-  sum-there small =
+  sum_there small =
       be_behind (71 ∷ 82 ∷ 73 ∷ 66 ∷ reserved₁ ∷ reserved₂ ∷ discipline ∷ 2 ∷ []) (digits 8 total ++ later) 0 8
       ∙ be_digits 8 total later small
 
-  indicator-there : total < 256 ^ 8 → 16 ≤ total → read_at whole-file 0 0 ≡ section_at 0 0 16 (total - 16)
+  indicator_there : total < 256 ^ 8 → 16 ≤ total → read_at whole_file 0 0 ≡ section_at 0 0 16 (total - 16)
   unfolding read_at message_at indicator_at indicator_octets
-  indicator-there small enough =
-      let long = long-file in
-      rw (starts_there whole-file grib (omega arith), sum-there small, le-ltb total 16 enough)
+  indicator_there small enough =
+      let long = long_file in
+      rw (starts_there whole_file grib (omega arith), sum_there small, le-ltb total 16 enough)
 
 -- the total length that section 0 alone says
 pub total_there : (discipline reserved₁ reserved₂ total : ℕ) → total < 256 ^ 8
     → be_at (indicator_octets discipline reserved₁ reserved₂ total) 8 8 ≡ total
 total_there discipline reserved₁ reserved₂ total small =
-    rw append-nil at (sum-there discipline reserved₁ reserved₂ total [] small)
+    rw append-nil at (sum_there discipline reserved₁ reserved₂ total [] small)
 
 -- the listing of a written message
 pub message_listed : (discipline reserved₁ reserved₂ : ℕ) (parts : List Part) (store : List ℕ) → AllSound (length store) parts
@@ -214,12 +214,12 @@ message_listed discipline reserved₁ reserved₂ parts store sound small =
     let front = indicator_octets discipline reserved₁ reserved₂ (total_of parts) in
     let file = front ++ body_octets parts store in
     let left : total_of parts - 16 ≡ sections_size parts + 4 = omega arith in
-    let after : listing_on file 16 (sections_size parts + 4) ≡ record { sections = to_end 16 parts; ending = over } =
+    let after : listing_on file 16 (sections_size parts + 4) ≡ record { sections = to_end_lem 16 parts; ending = over } =
     rw (length_indicator discipline reserved₁ reserved₂ (total_of parts)) at (body_listed store front parts sound) in
     listing_is file
     ∙ rw (
       listing_next file 0 0,
-      indicator-there discipline reserved₁ reserved₂ (total_of parts) (body_octets parts store) (omega arith) (omega arith),
+      indicator_there discipline reserved₁ reserved₂ (total_of parts) (body_octets parts store) (omega arith) (omega arith),
       left,
       after,
       to_end_lem 16 parts,

@@ -11,7 +11,7 @@ use Rattle.order.specs.declared.Order.TheVariants.{AfterIndicator}
 use Rattle.order.specs.declared.Judged.{Judged}
 use Rattle.order.specs.declared.Judged.TheVariants.{Fits, Closes, Misplaced, NoGrid}
 use Rattle.order.specs.declared.Verdict.TheVariants.{Clean}
-use Rattle.order.proofs.Laws.{fits_below, closes-only}
+use Rattle.order.proofs.Laws.{fits_below, closes_only}
 use Rattle.writer.specs.Plan.{Part}
 use Rattle.round_trip.specs.ReadBack.{numbers_of}
 use Rattle.round_trip.specs.Faults.{AtNone, Reaches, arrived, on, EndsAfter, OneMessage}
@@ -50,7 +50,7 @@ ends order from (part ∷ more) none e =
         → ((next : Order) → order_from next (from + 1) (numbers_of more ++ (8 ∷ [])) ≡ Clean → EndsAfter next more)
         → EndsAfter order (part ∷ more)
     go (Fits next) w e ih = let m = ih next e in record { last = m.last; ordered = on w m.ordered; closed = m.closed }
-    go Closes w e ih = absurd (none 0 (omega arith) (closes-only order part.number w).1)
+    go Closes w e ih = absurd (none 0 (omega arith) (closes_only order part.number w).1)
     go Misplaced w e ih = absurd (let z : ◌≡◌ {A = ℕ} 0 1 = cc in omega arith)
     go NoGrid w e ih = absurd (let z : ◌≡◌ {A = ℕ} 0 1 = cc in omega arith)
 

@@ -64,8 +64,8 @@ module _ (discipline reserved₁ reserved₂ : ℕ) (parts : List Part) (store :
       rw (le-ltb 1099511627776 (length file) (omega arith), listed)
       (rw (to_end_lem 16 parts) at (clean_message tables file parts a.ordered rows lines))
 
-  message-reads-back : ReadsBack discipline parts store file total
-  message-reads-back =
+  message_reads_back : ReadsBack discipline parts store file total
+  message_reads_back =
       record {
         long = long;
         decoded = decoded;
@@ -91,22 +91,22 @@ module _ (discipline reserved₁ reserved₂ : ℕ) (plan store dest : List ℕ)
         ReadsBack discipline (parts_of plan) store (take total (write_of discipline reserved₁ reserved₂ plan store dest).dest) total
     reads_back =
         let octets = message_octets discipline reserved₁ reserved₂ (parts_of plan) store in
-        let back = message-reads-back discipline reserved₁ reserved₂ (parts_of plan) store (length dest) total has in
+        let back = message_reads_back discipline reserved₁ reserved₂ (parts_of plan) store (length dest) total has in
         let first : take total (octets ++ drop total dest) ≡ octets = take_at octets (drop total dest) total back.long in
         rw (holds, first) back
 
     -- those past them are as they were
-    pub past-unchanged : drop total (write_of discipline reserved₁ reserved₂ plan store dest).dest ≡ drop total dest
-    past-unchanged =
+    pub past_unchanged : drop total (write_of discipline reserved₁ reserved₂ plan store dest).dest ≡ drop total dest
+    past_unchanged =
         let octets = message_octets discipline reserved₁ reserved₂ (parts_of plan) store in
-        let back = message-reads-back discipline reserved₁ reserved₂ (parts_of plan) store (length dest) total has in
+        let back = message_reads_back discipline reserved₁ reserved₂ (parts_of plan) store (length dest) total has in
         rw holds (drop_at octets (drop total dest) total back.long)
 
   -- after a refusal all are
-  pub refused-unchanged : ((total : ℕ) → (write_of discipline reserved₁ reserved₂ plan store dest).answer ≡ Whole total → ⊥)
+  pub refused_unchanged : ((total : ℕ) → (write_of discipline reserved₁ reserved₂ plan store dest).answer ≡ Whole total → ⊥)
       → (write_of discipline reserved₁ reserved₂ plan store dest).dest ≡ dest
   unfolding write_of dest_of
-  refused-unchanged refused = go (judged_plan (parts_of plan) (length store) (length dest)) refused
+  refused_unchanged refused = go (judged_plan (parts_of plan) (length store) (length dest)) refused
     where
       go : (w : Written) → ((total : ℕ) → w ≡ Whole total → ⊥)
           → dest_of w (message_octets discipline reserved₁ reserved₂ (parts_of plan) store) dest ≡ dest

@@ -24,7 +24,7 @@ use Rattle.order.specs.declared.Order.TheVariants.{
   SubmessageStart,
 }
 use Rattle.order.specs.declared.Judged.TheVariants.{Fits}
-use Rattle.order.proofs.Laws.{ReachedBy, fits-number, fits_below, closes-only, completes_only, completes-there, starts-next}
+use Rattle.order.proofs.Laws.{ReachedBy, fits_number, fits_below, closes_only, completes_only, completes_there, starts_next}
 use Rattle.framing.specs.Listing.{over}
 use Rattle.framing.specs.declared.read.Section.{Section}
 use Rattle.index.specs.Lines.{place, with_submessage, line_of}
@@ -33,7 +33,7 @@ use Rattle.index.specs.declared.line.Line.{Line}
 use Rattle.index.specs.declared.bounds.Room.{Room}
 use Rattle.index.specs.Walk.{Reached, at_start, passes, here, comes_in_force, fitted, closing, by_order, judgement, concluded, walked_from}
 use Rattle.writer.specs.Plan.{Part, no_fault, misfit_from, misfit}
-use Rattle.writer.proofs.Checks.{misfit-passed, misfit_closed}
+use Rattle.writer.proofs.Checks.{misfit_passed, misfit_closed}
 use Rattle.round_trip.specs.ReadBack.{listed_as, lines_in, WalksClean}
 use Rattle.round_trip.proofs.Listed.{to_end}
 
@@ -67,7 +67,7 @@ due_after SubmessageStart number e = absurd e
 -- and by what completes a submessage
 due_of : (order : Order) (number : ℕ) → (number ≡ 8 → ⊥) → due order ≡ pick (completes order number) 1 0
 unfolding due completes
-due_of AfterData number other = rw (completes-there number other)
+due_of AfterData number other = rw (completes_there number other)
 due_of BetweenMessages number other = refl
 due_of AfterIndicator number other = refl
 due_of AfterIdentification number other = refl
@@ -100,7 +100,7 @@ goes room r s next fits rows lines = go (completes r.order s.number) refl
     go true e =
         let one : due r.order ≡ 1 = due_of r.order s.number other ∙ rw e in
         let after = (completes_only r.order s.number e).0 in
-        let starts : judged SubmessageStart s.number ≡ Fits next = sym (starts-next s.number other) ∙ rw (← after) fits in
+        let starts : judged SubmessageStart s.number ≡ Fits next = sym (starts_next s.number other) ∙ rw (← after) fits in
         record {
           next =
               record {
@@ -170,18 +170,18 @@ clean_from : (room : Room) (r : Reached) (from at : ℕ) (parts : List Part) →
     → WalksClean (walked_from room r (to_end at parts) over) (to_end at parts) (due r.order + lines_in parts)
 unfolding to_end lines_in
 clean_from room r from at [] passed rows lines =
-    let after = (closes-only r.order 8 (misfit_closed r.order from passed)).0 in
+    let after = (closes_only r.order 8 (misfit_closed r.order from passed)).0 in
     let one : due r.order ≡ 1 = ap due after ∙ due_data in
     rw one (clean_close room r at after (omega arith) (omega arith))
 clean_from room r from at (part ∷ more) passed rows lines =
-    let step = misfit-passed r.order from part more passed in
+    let step = misfit_passed r.order from part more passed in
     let s = listed_as part.number at (part.length + 5) in
     let g = goes room r s step.0 step.1 (omega arith) (omega arith) in
     let sections = g.sections in
     let count = g.count in
     let reached = g.reached in
     let after : due g.next.order ≡ pick (eqb part.number 7) 1 0 =
-    ap due reached ∙ due_after step.0 part.number (fits-number r.order part.number step.1) in
+    ap due reached ∙ due_after step.0 part.number (fits_number r.order part.number step.1) in
     let rest : WalksClean (walked_from room g.next (to_end (at + (part.length + 5)) more) over) (to_end (at + (part.length + 5)) more)
     (due g.next.order + lines_in more) =
     clean_from room g.next (from + 1) (at + (part.length + 5)) more (rw reached step.2) (omega arith) (omega arith) in

@@ -27,13 +27,13 @@ use Rattle.standing.specs.Tables.{rows_of, stored_over}
 use Rattle.standing.specs.Put.{put_at}
 use Rattle.standing.specs.Standing.{IsOctets}
 use Rattle.standing.proofs.Passed.{behind, said}
-use Rattle.standing.proofs.Put.{put-none, put_more, put_length, put-stored}
+use Rattle.standing.proofs.Put.{put_none, put_more, put_length, put_stored}
 use Rattle.reading.specs.Reading.{reading, start, Settled, seen}
 use Rattle.reading.specs.declared.Reading.{Reading}
 use Rattle.reading.specs.declared.Seen.{Seen}
 use Rattle.reading.specs.declared.Seen.TheVariants.{Passes, Closes, Misplaced, NoGrid, Clean, InputOver, Unreadable}
-use Rattle.reading.proofs.Moves.{passes-reads, passes-settled, closes-between, closes-settled, seen_again}
-use Rattle.reading.proofs.Told.{told_from, told_by, told-next, told_start}
+use Rattle.reading.proofs.Moves.{passes_reads, passes_settled, closes_between, closes_settled, seen_again}
+use Rattle.reading.proofs.Told.{told_from, told_by, told_next, told_start}
 
 -- by cases on a test, for two choices
 pub by_test_2 : {A B : Type 0} (P : A → B → Type 0) (t : Bool) {a c : A} {b d : B} → (t ≡ true → P a b) → (t ≡ false → P c d)
@@ -47,13 +47,13 @@ module _ {A : Type 0} (width : ℕ) (encode : Line → List A) (wide : (l : Line
   encoded [] = []
   encoded (l ∷ more) = encode l ++ encoded more
 
-  encoded-one : (l : Line) → encoded (l ∷ []) ≡ encode l
+  encoded_one : (l : Line) → encoded (l ∷ []) ≡ encode l
   unfolding encoded
-  encoded-one l = append-nil (encode l)
+  encoded_one l = append-nil (encode l)
 
-  encoded-more : (l : Line) (more : List Line) → encoded (l ∷ more) ≡ encode l ++ encoded more
+  encoded_more : (l : Line) (more : List Line) → encoded (l ∷ more) ≡ encode l ++ encoded more
   unfolding encoded
-  encoded-more l more = refl
+  encoded_more l more = refl
 
   -- what comes of a walk: the counts, how it ended, and both tables
   pub record Out : Type 0 where
@@ -90,11 +90,11 @@ module _ {A : Type 0} (width : ℕ) (encode : Line → List A) (wide : (l : Line
   one_more n = add-mul n 1 width ∙ ap (λ (k : ℕ). n * width + k) (one-mul width)
 
   -- nothing more is told ..
-  out-ends : (r : Reached) (end : Outcome) (rows : List ℕ) (lines : List A)
+  out_ends : (r : Reached) (end : Outcome) (rows : List ℕ) (lines : List A)
       → out r (ends end) rows lines ≡ result r.sections r.lines r.force.message end rows lines
   unfolding out encoded rows_of
-  out-ends r end rows lines =
-      rw (add-zero r.sections, add-zero r.lines, add-zero r.force.message, put-none (r.sections * 3) rows, put-none (r.lines * width) lines)
+  out_ends r end rows lines =
+      rw (add-zero r.sections, add-zero r.lines, add-zero r.force.message, put_none (r.sections * 3) rows, put_none (r.lines * width) lines)
 
   -- .. or a line first
   abbrev pub line_first : Line → Told → Told
@@ -108,7 +108,7 @@ module _ {A : Type 0} (width : ℕ) (encode : Line → List A) (wide : (l : Line
   out_line r l told rows lines q a b c fits =
       alike (ap (λ (n : ℕ). n + length told.sections) (sym a)) (omega (arith, b))
       (ap (λ (n : ℕ). n + told.messages) (sym c)) (ap (λ (n : ℕ). put_at (n * 3) (rows_of told.sections) rows) (sym a))
-      (ap (λ (x : List A). put_at i x lines) (encoded-more l told.lines)
+      (ap (λ (x : List A). put_at i x lines) (encoded_more l told.lines)
       ∙ sym (put_more i (encode l) (encoded told.lines) lines (rw (wide l) fits))
       ∙ ap (λ (k : ℕ). put_at k (encoded told.lines) (put_at i (encode l) lines)) (sym behind))
     where
@@ -123,13 +123,13 @@ module _ {A : Type 0} (width : ℕ) (encode : Line → List A) (wide : (l : Line
   section_first s closed told =
       record { sections = s ∷ told.sections; lines = told.lines; messages = closed + told.messages; outcome = told.outcome }
 
-  out-section : (r : Reached) (s : Section) (closed : ℕ) (told : Told) (rows : List ℕ) (lines : List A) (q : Reached)
+  out_section : (r : Reached) (s : Section) (closed : ℕ) (told : Told) (rows : List ℕ) (lines : List A) (q : Reached)
       → q.sections ≡ r.sections + 1 → q.lines ≡ r.lines → q.force.message ≡ r.force.message + closed
       → r.sections < length rows / 3
       → out r (section_first s closed told) rows lines
       ≡ out q told (put_at (r.sections * 3) (s.number ∷ s.offset.0 ∷ s.length ∷ []) rows) lines
   unfolding out rows_of
-  out-section r s closed told rows lines q a b c fits =
+  out_section r s closed told rows lines q a b c fits =
       alike (omega (arith, a)) (ap (λ (n : ℕ). n + length told.lines) (sym b))
       (sym (ap (λ (n : ℕ). n + told.messages) c ∙ add_assoc r.force.message closed told.messages))
       (sym (put_more i (s.number ∷ s.offset.0 ∷ s.length ∷ []) (rows_of told.sections) rows (omega arith))
@@ -175,20 +175,20 @@ module _ {A : Type 0} (width : ℕ) (encode : Line → List A) (wide : (l : Line
   told = walked room file
 
   -- .. is what it tells, stored over what was lent
-  pub is-told : meant
+  pub is_told : meant
       ≡ result width encode wide (length told.sections) (length told.lines) told.messages told.outcome
       (stored_over (rows_of told.sections) rows₀) (stored_over (encoded width encode wide told.lines) lines₀)
   unfolding out
-  is-told =
+  is_told =
       alike width encode wide (zero-add (length told.sections)) (zero-add (length told.lines)) (zero-add told.messages)
-      (put-stored (rows_of told.sections) rows₀)
+      (put_stored (rows_of told.sections) rows₀)
       (ap (λ (i : ℕ). put_at i (encoded width encode wide told.lines) lines₀) (zero-mul width)
-      ∙ put-stored (encoded width encode wide told.lines) lines₀)
+      ∙ put_stored (encoded width encode wide told.lines) lines₀)
 
   -- this file is walked, which is a list of octets; what is to come, put onto what stands, is what the walk means; no message and no submessage
   -- is without a line; between messages nothing of one is to come
   pub record Kept (r : Reached) (cursor : Cursor) (rows : List ℕ) (lines : List A) : Type 0 where
-    pub same-file : r.file ≡ file
+    pub same_file : r.file ≡ file
     pub octets : IsOctets file
     pub same_rows : length rows ≡ length rows₀
     pub same_lines : length lines ≡ length lines₀
@@ -200,7 +200,7 @@ module _ {A : Type 0} (width : ℕ) (encode : Line → List A) (wide : (l : Line
   pub begins : IsOctets file → length file ≤ most_octets → Kept (at_start file) start.cursor rows₀ lines₀
   begins octets short =
       record {
-        same-file = refl;
+        same_file = refl;
         octets = octets;
         same_rows = refl;
         same_lines = refl;
@@ -214,7 +214,7 @@ module _ {A : Type 0} (width : ℕ) (encode : Line → List A) (wide : (l : Line
       → meant ≡ result width encode wide 0 0 0 (outcome.Refused refusal.FileTooLong (place 0) (record { 0 = 0 })) rows₀ lines₀
   too_long long =
       ap (λ (t : Told). out width encode wide (at_start file) t rows₀ lines₀) (told_start file room ∙ simp (lt-ltb _ _ long))
-      ∙ out-ends width encode wide (at_start file) _ rows₀ lines₀
+      ∙ out_ends width encode wide (at_start file) _ rows₀ lines₀
 
   module _ {r : Reached} {cursor : Cursor} {rows : List ℕ} {lines : List A} (kept : Kept r cursor rows lines) where
     -- the walk ends here
@@ -224,20 +224,20 @@ module _ {A : Type 0} (width : ℕ) (encode : Line → List A) (wide : (l : Line
     by : {v : Seen} → seen file (reading cursor r.order) ≡ v → meant ≡ out width encode wide r (told_by file room r v) rows lines
     by e =
         sym kept.comes
-        ∙ ap (λ (t : Told). out width encode wide r t rows lines) (told-next file room r cursor kept.settled ∙ ap (told_by file room r) e)
+        ∙ ap (λ (t : Told). out width encode wide r t rows lines) (told_next file room r cursor kept.settled ∙ ap (told_by file room r) e)
 
     ends_by : {v : Seen} {end : Outcome} → seen file (reading cursor r.order) ≡ v → told_by file room r v ≡ ends end → Ends end
-    ends_by {end = end} e f = by e ∙ ap (λ (t : Told). out width encode wide r t rows lines) f ∙ out-ends width encode wide r end rows lines
+    ends_by {end = end} e f = by e ∙ ap (λ (t : Told). out width encode wide r t rows lines) f ∙ out_ends width encode wide r end rows lines
 
     -- by what is seen, where no table has a say
     pub clean : seen file (reading cursor r.order) ≡ Clean → Ends outcome.Clean
     unfolding told_by
     clean e = ends_by e refl
 
-    pub input-over : seen file (reading cursor r.order) ≡ InputOver
+    pub input_over_lem : seen file (reading cursor r.order) ≡ InputOver
         → Ends (outcome.Refused refusal.InputOver r.last.place r.last.section.offset)
     unfolding told_by
-    input-over e = ends_by e refl
+    input_over_lem e = ends_by e refl
 
     pub unreadable : {fault : Fault} {offset : Offset} → seen file (reading cursor r.order) ≡ Unreadable fault offset
         → Ends (outcome.Refused (refusal.Unreadable fault) (place r.sections) offset)
@@ -260,10 +260,10 @@ module _ {A : Type 0} (width : ℕ) (encode : Line → List A) (wide : (l : Line
     unfolding told_by
     no_line e c full = ends_by e (rw (c, le-leb _ _ full))
 
-    pub no-line-misplaced : {s : Section} → seen file (reading cursor r.order) ≡ Misplaced s → completes r.order s.number ≡ true
+    pub no_line_misplaced : {s : Section} → seen file (reading cursor r.order) ≡ Misplaced s → completes r.order s.number ≡ true
         → most ≤ r.lines → Ends (outcome.Refused refusal.SubmessageTableFull (place r.sections) s.offset)
     unfolding told_by
-    no-line-misplaced e c full = ends_by e (rw (c, le-leb _ _ full))
+    no_line_misplaced e c full = ends_by e (rw (c, le-leb _ _ full))
 
     -- 13, at a section that fits
     pub no_row : {s : Section} {next : Reading} → seen file (reading cursor r.order) ≡ Passes s next → completes r.order s.number ≡ false
@@ -272,16 +272,16 @@ module _ {A : Type 0} (width : ℕ) (encode : Line → List A) (wide : (l : Line
     no_row e c full = ends_by e (rw (c, le-leb _ _ full))
 
     -- 13, then 14, at the section 8 that closes
-    pub no-row-closing : {s : Section} {next : Reading} → seen file (reading cursor r.order) ≡ Closes s next
+    pub no_row_closing : {s : Section} {next : Reading} → seen file (reading cursor r.order) ≡ Closes s next
         → length rows₀ / 3 ≤ r.sections → Ends (outcome.Refused refusal.SectionTableFull (place r.sections) s.offset)
     unfolding told_by closing
-    no-row-closing e full = ends_by e (rw (le-leb _ _ full))
+    no_row_closing e full = ends_by e (rw (le-leb _ _ full))
 
-    pub no-line-closing : {s : Section} {next : Reading} → seen file (reading cursor r.order) ≡ Closes s next
+    pub no_line_closing : {s : Section} {next : Reading} → seen file (reading cursor r.order) ≡ Closes s next
         → r.sections < length rows₀ / 3 → most ≤ r.lines
         → Ends (outcome.Refused refusal.SubmessageTableFull (place r.sections) s.offset)
     unfolding told_by closing
-    no-line-closing e free full = ends_by e (rw (lt-leb _ _ free, le-leb _ _ full))
+    no_line_closing e free full = ends_by e (rw (lt-leb _ _ free, le-leb _ _ full))
 
     in_rows : r.sections < length rows₀ / 3 → r.sections < length rows / 3
     in_rows free = rw kept.same_rows free
@@ -306,7 +306,7 @@ module _ {A : Type 0} (width : ℕ) (encode : Line → List A) (wide : (l : Line
         let message : force.message ≡ r.force.message = sym (ap (λ (g : Force). g.message) f) ∙ same.0 in
         let submessage : force.submessage ≡ r.force.submessage = sym (ap (λ (g : Force). g.submessage) f) ∙ same.1 in
         record {
-          same-file = kept.same-file;
+          same_file = kept.same_file;
           octets = kept.octets;
           same_rows = put_length (r.sections * 3) (s.number ∷ s.offset.0 ∷ s.length ∷ []) rows (omega (arith, in_rows free)) ∙ kept.same_rows;
           same_lines = kept.same_lines;
@@ -314,25 +314,25 @@ module _ {A : Type 0} (width : ℕ) (encode : Line → List A) (wide : (l : Line
               sym
               (by e
               ∙ ap (λ (t : Told). out width encode wide r t rows lines) (first f)
-              ∙ out-section width encode wide r s 0 (told_from file room q next.cursor) rows lines q refl refl (message ∙ sym (add-zero _)) (in_rows free));
+              ∙ out_section width encode wide r s 0 (told_from file room q next.cursor) rows lines q refl refl (message ∙ sym (add-zero _)) (in_rows free));
           messages = rw message kept.messages;
           submessages = rw submessage kept.submessages;
-          settled = passes-settled file (reading cursor r.order) kept.settled e;
+          settled = passes_settled file (reading cursor r.order) kept.settled e;
         }
       where
         q : Reached
         q = record { file = r.file; sections = r.sections + 1; lines = r.lines; last = here r s; order = next.order; force = force }
 
         -- a section 0 says where its message stands
-        in-force : behind r.force s next.cursor (place r.sections) ≡ force → comes_in_force r.file r.force s (place r.sections) ≡ force
-        in-force f =
+        in_force_lem : behind r.force s next.cursor (place r.sections) ≡ force → comes_in_force r.file r.force s (place r.sections) ≡ force
+        in_force_lem f =
             ap (λ (x : Span). with_span (in_force r.force s.number (place r.sections)) x)
-            (said cursor.at.0 cursor.rest kept.same-file kept.octets r.force.span (passes-reads file (reading cursor r.order) e))
+            (said cursor.at.0 cursor.rest kept.same_file kept.octets r.force.span (passes_reads file (reading cursor r.order) e))
             ∙ f
 
         first : behind r.force s next.cursor (place r.sections) ≡ force
             → told_by file room r (Passes s next) ≡ section_first width encode wide s 0 (told_from file room q next.cursor)
-        first f = rw (c, lt-leb _ _ free, in-force f)
+        first f = rw (c, lt-leb _ _ free, in_force_lem f)
 
     -- a message is closed
     pub closed : {s : Section} {next : Reading} → seen file (reading cursor r.order) ≡ Closes s next
@@ -352,7 +352,7 @@ module _ {A : Type 0} (width : ℕ) (encode : Line → List A) (wide : (l : Line
     unfolding told_by closing
     closed {s} {next} e free line =
         record {
-          same-file = kept.same-file;
+          same_file = kept.same_file;
           octets = kept.octets;
           same_rows = put_length (r.sections * 3) (s.number ∷ s.offset.0 ∷ s.length ∷ []) rows (omega (arith, in_rows free)) ∙ kept.same_rows;
           same_lines = put_length (r.lines * width) (encode l) lines (rw (wide l) (in_lines line)) ∙ kept.same_lines;
@@ -360,11 +360,11 @@ module _ {A : Type 0} (width : ℕ) (encode : Line → List A) (wide : (l : Line
               sym
               (by e
               ∙ ap (λ (t : Told). out width encode wide r t rows lines) first
-              ∙ out-section width encode wide r s 1 (line_first width encode wide l later) rows lines q₁ refl refl refl (in_rows free)
+              ∙ out_section width encode wide r s 1 (line_first width encode wide l later) rows lines q₁ refl refl refl (in_rows free)
               ∙ out_line width encode wide q₁ l later rows' lines q refl refl refl (in_lines line));
           messages = omega (arith, kept.messages);
           submessages = omega arith;
-          settled = closes-settled file (reading cursor r.order) kept.settled e;
+          settled = closes_settled file (reading cursor r.order) kept.settled e;
         }
       where
         l : Line
@@ -383,16 +383,16 @@ module _ {A : Type 0} (width : ℕ) (encode : Line → List A) (wide : (l : Line
         later = told_from file room q next.cursor
 
         first : told_by file room r (Closes s next) ≡ section_first width encode wide s 1 (line_first width encode wide l later)
-        first = rw (lt-leb _ _ free, lt-leb _ _ line, closes-between file (reading cursor r.order) e)
+        first = rw (lt-leb _ _ free, lt-leb _ _ line, closes_between file (reading cursor r.order) e)
 
     -- a submessage that goes on is told
-    pub gone-on : {s : Section} {next : Reading} → seen file (reading cursor r.order) ≡ Passes s next
+    pub gone_on_lem : {s : Section} {next : Reading} → seen file (reading cursor r.order) ≡ Passes s next
         → completes r.order s.number ≡ true → r.lines < most
         → Kept (gone_on r) cursor rows (put_at (r.lines * width) (encode (line_of r.force GoesOn)) lines)
     unfolding told_by completes fitted
-    gone-on {s} {next} e c free =
+    gone_on_lem {s} {next} e c free =
         record {
-          same-file = kept.same-file;
+          same_file = kept.same_file;
           octets = kept.octets;
           same_rows = kept.same_rows;
           same_lines = put_length (r.lines * width) (encode l) lines (rw (wide l) (in_lines free)) ∙ kept.same_lines;
@@ -422,10 +422,10 @@ module _ {A : Type 0} (width : ℕ) (encode : Line → List A) (wide : (l : Line
             rw (c, lt-leb _ _ free)
             (split
             ∙ ap (line_first width encode wide l)
-            (sym (told-next file room (gone_on r) cursor (started cursor) ∙ ap (told_by file room (gone_on r)) (seen_again file cursor r.order e c))))
+            (sym (told_next file room (gone_on r) cursor (started cursor) ∙ ap (told_by file room (gone_on r)) (seen_again file cursor r.order e c))))
 
     -- .. also where the section after it is refused with 11
-    pub misplaced-line : {s : Section} → seen file (reading cursor r.order) ≡ Misplaced s → completes r.order s.number ≡ true
+    pub misplaced_line : {s : Section} → seen file (reading cursor r.order) ≡ Misplaced s → completes r.order s.number ≡ true
         → r.lines < most
         → meant
         ≡ result width encode wide r.sections (r.lines + 1) r.force.message
@@ -433,11 +433,11 @@ module _ {A : Type 0} (width : ℕ) (encode : Line → List A) (wide : (l : Line
         rows
         (put_at (r.lines * width) (encode (line_of r.force GoesOn)) lines)
     unfolding told_by
-    misplaced-line {s} e c free =
+    misplaced_line {s} e c free =
         by e
         ∙ ap (λ (t : Told). out width encode wide r t rows lines) first
         ∙ out_line width encode wide r l (ends end) rows lines (gone_on r) refl refl refl (in_lines free)
-        ∙ out-ends width encode wide (gone_on r) end rows (put_at (r.lines * width) (encode l) lines)
+        ∙ out_ends width encode wide (gone_on r) end rows (put_at (r.lines * width) (encode l) lines)
       where
         l : Line
         l = line_of r.force GoesOn
@@ -450,7 +450,7 @@ module _ {A : Type 0} (width : ℕ) (encode : Line → List A) (wide : (l : Line
 
   -- the section behind a submessage that goes on is passed, or finds the table full
   module _ {r : Reached} {cursor : Cursor} {rows : List ℕ} {lines : List A} (kept : Kept r cursor rows lines) where
-    pub passed-behind : {s : Section} {next : Reading} (force : Force) → behind (gone_on r).force s next.cursor (place r.sections) ≡ force
+    pub passed_behind : {s : Section} {next : Reading} (force : Force) → behind (gone_on r).force s next.cursor (place r.sections) ≡ force
         → seen file (reading cursor r.order) ≡ Passes s next → completes r.order s.number ≡ true → r.lines < most
         → r.sections < length rows₀ / 3
         → Kept
@@ -458,14 +458,14 @@ module _ {A : Type 0} (width : ℕ) (encode : Line → List A) (wide : (l : Line
         next.cursor
         (put_at (r.sections * 3) (s.number ∷ s.offset.0 ∷ s.length ∷ []) rows)
         (put_at (r.lines * width) (encode (line_of r.force GoesOn)) lines)
-    passed-behind {s} force f e c line free =
-        passed (gone-on kept e c line) force f (seen_again file cursor r.order e c) (none s.number) free
+    passed_behind {s} force f e c line free =
+        passed (gone_on_lem kept e c line) force f (seen_again file cursor r.order e c) (none s.number) free
 
-    pub no-row-behind : {s : Section} {next : Reading} → seen file (reading cursor r.order) ≡ Passes s next
+    pub no_row_behind : {s : Section} {next : Reading} → seen file (reading cursor r.order) ≡ Passes s next
         → completes r.order s.number ≡ true → r.lines < most → length rows₀ / 3 ≤ r.sections
         → meant
         ≡ result width encode wide r.sections (r.lines + 1) r.force.message
         (outcome.Refused refusal.SectionTableFull (place r.sections) s.offset)
         rows
         (put_at (r.lines * width) (encode (line_of r.force GoesOn)) lines)
-    no-row-behind {s} e c line full = no_row (gone-on kept e c line) (seen_again file cursor r.order e c) (none s.number) full
+    no_row_behind {s} e c line full = no_row (gone_on_lem kept e c line) (seen_again file cursor r.order e c) (none s.number) full

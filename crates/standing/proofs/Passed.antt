@@ -64,17 +64,17 @@ said {file} {walks} at rest {s} {next} same octets before e =
 
 -- and in the walk's variables: by a section 2, by one behind it, and by one before
 module _ (at : Standing) (span : Span) (local : LocalUsePlace) (places : List Place) (s : Section) (next : Cursor) (here : Place) where
-  pub in-force-local : s.number ≡ 2 → behind (force_in at span local places) s next here ≡ force_in at span (At here) places
+  pub in_force_local : s.number ≡ 2 → behind (force_in at span local places) s next here ≡ force_in at span (At here) places
   unfolding in_force span_after
-  in-force-local two = rw (eq-eqb s.number 2 two, ne_eqb s.number 0 (λ e. omega arith)) refl
+  in_force_local two = rw (eq-eqb s.number 2 two, ne_eqb s.number 0 (λ e. omega arith)) refl
 
-  pub in-force-kept : 2 < s.number → s.number < 8
+  pub in_force_kept : 2 < s.number → s.number < 8
       → behind (force_in at span local places) s next here ≡ force_in at span local (set places s.number here)
   unfolding in_force span_after
-  in-force-kept late kept =
+  in_force_kept late kept =
       rw (ne_eqb s.number 2 (λ e. omega arith), ne_eqb s.number 0 (λ e. omega arith), lt-ltb s.number 8 kept) refl
 
-  pub in-force-early : s.number ≤ 2 → (s.number ≡ 2 → ⊥)
+  pub in_force_early : s.number ≤ 2 → (s.number ≡ 2 → ⊥)
       → behind (force_in at span local places) s next here ≡ force_in at (span_after span s next) local (set places s.number here)
   unfolding in_force
-  in-force-early early other = rw (ne_eqb s.number 2 other, lt-ltb s.number 8 (omega arith)) refl
+  in_force_early early other = rw (ne_eqb s.number 2 other, lt-ltb s.number 8 (omega arith)) refl

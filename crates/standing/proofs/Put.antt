@@ -9,20 +9,20 @@ use Rattle.standing.specs.Put.{put_at, row_of, row_put}
 use Rattle.standing.specs.Tables.{stored_over}
 
 module _ {A : Type 0} where
-  pub put-none : (i : ℕ) (l : List A) → put_at i [] l ≡ l
-  put-none i l = ap (λ (k : ℕ). take i l ++ drop k l) (add-zero i) ∙ take-append-drop i l
+  pub put_none : (i : ℕ) (l : List A) → put_at i [] l ≡ l
+  put_none i l = ap (λ (k : ℕ). take i l ++ drop k l) (add-zero i) ∙ take-append-drop i l
 
   -- what is put stands behind what was put before it
-  head-length : (i : ℕ) (a l : List A) → i + length a ≤ length l → length (take i l ++ a) ≡ i + length a
-  head-length i a l h = length-append (take i l) a ∙ ap (λ (k : ℕ). k + length a) (length-take-le i l (omega arith))
+  head_length : (i : ℕ) (a l : List A) → i + length a ≤ length l → length (take i l ++ a) ≡ i + length a
+  head_length i a l h = length-append (take i l) a ∙ ap (λ (k : ℕ). k + length a) (length-take-le i l (omega arith))
 
   pub put_more : (i : ℕ) (a b l : List A) → i + length a ≤ length l → put_at (i + length a) b (put_at i a l) ≡ put_at i (a ++ b) l
   put_more i a b l h =
       let head = take i l ++ a in
       let tail = drop (i + length a) l in
       let whole : put_at i a l ≡ head ++ tail = sym (append_assoc (take i l) a tail) in
-      let front = take_at head tail (i + length a) (head-length i a l h) in
-      let behind = drop_at head tail (i + length a) (head-length i a l h) in
+      let front = take_at head tail (i + length a) (head_length i a l h) in
+      let behind = drop_at head tail (i + length a) (head_length i a l h) in
       ap (put_at (i + length a) b) whole
       ∙ ap (λ (x : List A). x ++ (b ++ drop (i + length a + length b) (head ++ tail))) front
       ∙ ap (λ (x : List A). head ++ (b ++ x)) (sym (drop-drop (length b) (i + length a) (head ++ tail)) ∙ ap (drop (length b)) behind ∙ drop-drop (length b) (i + length a) l)
@@ -39,8 +39,8 @@ module _ {A : Type 0} where
   put_one i x l h = set_split l i x h ∙ ap (λ (k : ℕ). take i l ++ x ∷ drop k l) (sym (add-one i))
 
   -- from the start on
-  pub put-stored : (new l : List A) → put_at 0 new l ≡ stored_over new l
-  put-stored new l = ap (λ (k : ℕ). new ++ drop k l) (zero-add (length new))
+  pub put_stored : (new l : List A) → put_at 0 new l ≡ stored_over new l
+  put_stored new l = ap (λ (k : ℕ). new ++ drop k l) (zero-add (length new))
 
 -- three numbers stored from index i on
 three : (l : List ℕ) (i a b c : ℕ) → suc (suc (suc i)) ≤ length l

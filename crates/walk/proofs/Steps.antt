@@ -19,7 +19,7 @@ use Rattle.reading.specs.Reading.{Settled, seen}
 use Rattle.reading.specs.declared.Reading.{Reading}
 use Rattle.reading.specs.declared.Seen.{Seen}
 use Rattle.reading.specs.declared.Seen.TheVariants.{Passes, Closes, Misplaced, NoGrid, Clean, InputOver, Unreadable}
-use Rattle.reading.proofs.Moves.{passes-stands, passes_kept, passes-settled}
+use Rattle.reading.proofs.Moves.{passes_stands, passes_kept, passes_settled}
 use Rattle.walk.specs.declared.lines.Only.{Only}
 use Rattle.walk.specs.declared.lines.Only.TheVariants.{Row, More}
 use Rattle.standing.specs.declared.Standing.{Standing}
@@ -77,15 +77,15 @@ module _ (file : List ℕ) (room : Room) where
   OnlyRow t s next = row_only room (standing_of t) (seen file t.reading) ≡ Row s next
 
   -- the turn passes it, and no more
-  pub row-turn : (t : Tally) {s : Section} {next : Reading} → OnlyRow t s next → turn_of file room t ≡ passed_of (fresh_of t) s next
+  pub row_turn : (t : Tally) {s : Section} {next : Reading} → OnlyRow t s next → turn_of file room t ≡ passed_of (fresh_of t) s next
   unfolding turn_of by_seen taken_of fitted_of
-  row-turn t e = let a = alone room (standing_of t) (seen file t.reading) e in rw (a.sees, a.lone, lt-leb _ _ a.free)
+  row_turn t e = let a = alone room (standing_of t) (seen file t.reading) e in rw (a.sees, a.lone, lt-leb _ _ a.free)
 
   goes_on : (most : ℕ) (t : Tally) (rows : List ℕ) {s : Section} {next : Reading} → OnlyRow t s next
       → steps_of file room (suc most) t rows
       ≡ steps_of file room most (fresh_of (passed_of (fresh_of t) s next)) (row_put t.sections s rows)
   unfolding steps_of rows_after
-  goes_on most t rows e = rw (e, row-turn t e)
+  goes_on most t rows e = rw (e, row_turn t e)
 
   stops : (most : ℕ) (t : Tally) (rows : List ℕ) → row_only room (standing_of t) (seen file t.reading) ≡ More
       → let u = turn_of file room t in
@@ -136,12 +136,12 @@ module _ {file rows₀ : List ℕ} {lines : ℕ} {room : Room} {before : Tally} 
     what : Alone room at (seen file at.reading) s next
     what = alone room at (seen file at.reading) l.is
 
-    pub kept-number : s.number < 8
-    kept-number = passes_kept file at.reading so_far.settled what.sees
+    pub kept_number : s.number < 8
+    kept_number = passes_kept file at.reading so_far.settled what.sees
 
     pub falls : length file - next.cursor.at.0 < length file - at.reading.cursor.at.0
     falls =
-        let stands = passes-stands file at.reading what.sees in
+        let stands = passes_stands file at.reading what.sees in
         omega (arith, stands.inside, stands.forward, stands.later)
 
     pub goes : {at' : Standing} {span' : Span} {local' : LocalUsePlace} {places' : List Place} {rows' : List ℕ}
@@ -153,31 +153,31 @@ module _ {file rows₀ : List ℕ} {lines : ℕ} {room : Room} {before : Tally} 
         (record {
           most = so_far.most - 1;
           enough = omega (arith, so_far.enough, falls);
-          comes = next-is ∙ sym (goes_on file room (so_far.most - 1) (resumed_of before at span local places) rows l.is) ∙ comes;
+          comes = next_is_lem ∙ sym (goes_on file room (so_far.most - 1) (resumed_of before at span local places) rows l.is) ∙ comes;
           room_is = so_far.room_is;
           same_rows = row_length at.sections s rows ∙ so_far.same_rows;
-          settled = passes-settled file at.reading so_far.settled what.sees;
+          settled = passes_settled file at.reading so_far.settled what.sees;
         })
       where
-        next-is : steps_of file room (so_far.most - 1) (resumed_of before (passed_row at s next) span' local' places') (row_put at.sections s rows)
+        next_is_lem : steps_of file room (so_far.most - 1) (resumed_of before (passed_row at s next) span' local' places') (row_put at.sections s rows)
             ≡ steps_of file room (so_far.most - 1) (fresh_of (passed_of (fresh_of (resumed_of before at span local places)) s next)) (row_put at.sections s rows)
-        next-is = rw force
+        next_is_lem = rw force
 
   -- the turn behind them
   pub record Last (r : Tally) : Type 0 where
-    pub more-than : here ≡ More
+    pub more_than : here ≡ More
     pub is : r ≡ by_seen (seen file at.reading) room (resumed_of before at span local places)
 
-  pub last-is : {v : Seen} {o : Only} {f r : Tally} → v ≡ seen file at.reading → o ≡ row_only room at v → o ≡ More
+  pub last_is : {v : Seen} {o : Only} {f r : Tally} → v ≡ seen file at.reading → o ≡ row_only room at v → o ≡ More
       → f ≡ resumed_of before at span local places → r ≡ by_seen v room f → Last r
-  last-is e f g h k = record { more-than = told e f g; is = k ∙ rw (h, e) }
+  last_is e f g h k = record { more_than = told e f g; is = k ∙ rw (h, e) }
 
   module _ {r : Tally} (l : Last r) where
     pub done : {rows' : List ℕ} → rows' ≡ rows_after r.passed r.last rows
         → (r ≡ (step_of file lines before rows₀).tally) × (rows' ≡ (step_of file lines before rows₀).rows)
     unfolding turn_of
     done stored =
-        let whole = sym (stops file room (so_far.most - 1) (resumed_of before at span local places) rows l.more-than) ∙ comes in (
+        let whole = sym (stops file room (so_far.most - 1) (resumed_of before at span local places) rows l.more_than) ∙ comes in (
           l.is ∙ ap (λ (x : Stepped). x.tally) whole,
           stored ∙ ap (λ (u : Tally). rows_after u.passed u.last rows) l.is ∙ ap (λ (x : Stepped). x.rows) whole,
         )

@@ -28,7 +28,7 @@ use Rattle.reading.specs.Reading.{seen}
 use Rattle.reading.specs.declared.Reading.{Reading}
 use Rattle.reading.specs.declared.Seen.{Seen}
 use Rattle.reading.specs.declared.Seen.TheVariants.{Passes, Closes, Misplaced, NoGrid, Clean, InputOver, Unreadable}
-use Rattle.reading.proofs.Moves.{passes-stands, closes-stands}
+use Rattle.reading.proofs.Moves.{passes_stands, closes_stands}
 use Rattle.standing.specs.Standing.{IsOctets, one_more}
 use Rattle.standing.specs.Tables.{room_of, stored_over}
 use Rattle.walk.specs.Tables.{walk_of}
@@ -65,7 +65,7 @@ use Rattle.standing.proofs.Put.{put_one, row_there}
 use Rattle.standing.proofs.Passed.{more, behind}
 use Rattle.standing.proofs.Lent as lent
 use Rattle.standing.proofs.Lent.{encoded, Out, result}
-use Rattle.walk.proofs.Steps.{row-turn}
+use Rattle.walk.proofs.Steps.{row_turn}
 
 -- a line is one element of its table
 abbrev pub one : Line → List Line
@@ -132,7 +132,7 @@ module _ (file rows₀ : List ℕ) (lines₀ : List Line) where
   pub ran : (t : Tally) (rows : List ℕ) (lines : List Line) → Held t rows lines → t.going ≡ false → Ran t rows lines
   unfolding walk_of
   ran t rows lines held ended =
-      let e = sym (held.over ended) ∙ lent.is-told 1 one wide file rows₀ lines₀ (length lines₀) (enough lines₀) in
+      let e = sym (held.over ended) ∙ lent.is_told 1 one wide file rows₀ lines₀ (length lines₀) (enough lines₀) in
       record {
         answer = ap (λ (x : Out 1 one wide). answer_in x) e;
         rows = ap (λ (x : Out 1 one wide). x.rows) e;
@@ -182,33 +182,33 @@ module _ (file rows₀ : List ℕ) (lines₀ : List Line) where
     goes u on k l = record { held = record { on = λ g. k; over = λ g. absurd (never_both on g) }; less = λ g. l }
 
     -- the counts stay below their end
-    sections-more : t.sections < length rows₀ / 3 → one_more t.sections ≡ t.sections + 1
-    sections-more free = more t.sections (omega arith)
+    sections_more : t.sections < length rows₀ / 3 → one_more t.sections ≡ t.sections + 1
+    sections_more free = more t.sections (omega arith)
 
     lines_more : t.lines < length lines₀ → one_more t.lines ≡ t.lines + 1
     lines_more free = more t.lines (omega arith)
 
-    message-more : t.lines < length lines₀ → one_more t.force.message ≡ t.force.message + 1
-    message-more free = more t.force.message (omega (arith, kept.messages))
+    message_more : t.lines < length lines₀ → one_more t.force.message ≡ t.force.message + 1
+    message_more free = more t.force.message (omega (arith, kept.messages))
 
-    submessage-more : t.lines < length lines₀ → one_more t.force.submessage ≡ t.force.submessage + 1
-    submessage-more free = more t.force.submessage (omega (arith, kept.submessages))
+    submessage_more : t.lines < length lines₀ → one_more t.force.submessage ≡ t.force.submessage + 1
+    submessage_more free = more t.force.submessage (omega (arith, kept.submessages))
 
-    row-stored : (s : Section) → t.sections < length rows₀ / 3
+    row_stored : (s : Section) → t.sections < length rows₀ / 3
         → rows_after true (record { place = place t.sections; section = s }) rows
         ≡ put_at (t.sections * 3) (s.number ∷ s.offset.0 ∷ s.length ∷ []) rows
-    row-stored s free = row_put (record { place = place t.sections; section = s }) rows (rw kept.same_rows free)
+    row_stored s free = row_put (record { place = place t.sections; section = s }) rows (rw kept.same_rows free)
 
-    line-stored : (l : Line) → t.lines < length lines₀ → lines_after true t.lines l lines ≡ put_at (t.lines * 1) (one l) lines
-    line-stored l free = line_put t.lines l lines (omega (arith, kept.same_lines))
+    line_stored : (l : Line) → t.lines < length lines₀ → lines_after true t.lines l lines ≡ put_at (t.lines * 1) (one l) lines
+    line_stored l free = line_put t.lines l lines (omega (arith, kept.same_lines))
 
     moves : {s : Section} {next : Reading} → seen file t.reading ≡ Passes s next
         → (t.reading.cursor.at.0 < length file) × (t.reading.cursor.at.0 < next.cursor.at.0)
-    moves e = let stands = passes-stands file t.reading e in (stands.inside, omega (arith, stands.forward, stands.later))
+    moves e = let stands = passes_stands file t.reading e in (stands.inside, omega (arith, stands.forward, stands.later))
 
-    moves-closing : {s : Section} {next : Reading} → seen file t.reading ≡ Closes s next
+    moves_closing : {s : Section} {next : Reading} → seen file t.reading ≡ Closes s next
         → (t.reading.cursor.at.0 < length file) × (t.reading.cursor.at.0 < next.cursor.at.0)
-    moves-closing e = let stands = closes-stands file t.reading e in (stands.inside, omega (arith, stands.forward, stands.later))
+    moves_closing e = let stands = closes_stands file t.reading e in (stands.inside, omega (arith, stands.forward, stands.later))
 
     -- a section that fits, where nothing is completed
     fits : (s : Section) (next : Reading) → seen file t.reading ≡ Passes s next → completes t.reading.order s.number ≡ false
@@ -220,7 +220,7 @@ module _ (file rows₀ : List ℕ) (lines₀ : List Line) where
         λ left.
         let free : t.sections < length rows₀ / 3 = leb-false (length rows₀ / 3) t.sections left in
         goes (passed_of f s next) going
-        (rw (row-stored s free, line_none t.slot t.line lines, sections-more free)
+        (rw (row_stored s free, line_none t.slot t.line lines, sections_more free)
         (lent.passed 1 one wide file rows₀ lines₀ (length lines₀) (enough lines₀) kept (behind t.force s next.cursor (place t.sections)) refl e c free))
         (moves e)
 
@@ -228,73 +228,73 @@ module _ (file rows₀ : List ℕ) (lines₀ : List Line) where
     abbrev line : Line
     line = line_of t.force GoesOn
 
-    fits-behind : (s : Section) (next : Reading) → seen file t.reading ≡ Passes s next → completes t.reading.order s.number ≡ true
+    fits_behind : (s : Section) (next : Reading) → seen file t.reading ≡ Passes s next → completes t.reading.order s.number ≡ true
         → t.lines < length lines₀ → After (fitted_of room (told_of f) s next)
     unfolding fitted_of
-    fits-behind s next e c room-left =
+    fits_behind s next e c room-left =
         by_test After (leb (length rows₀ / 3) t.sections)
         (λ full.
         stops (refused_of (told_of f) refusal.SectionTableFull s) refl
-        (rw (row_none t.last rows, line-stored line room-left, lines_more room-left)
-        (lent.no-row-behind 1 one wide file rows₀ lines₀ (length lines₀) (enough lines₀) kept e c room-left (leb-true _ _ full))))
+        (rw (row_none t.last rows, line_stored line room-left, lines_more room-left)
+        (lent.no_row_behind 1 one wide file rows₀ lines₀ (length lines₀) (enough lines₀) kept e c room-left (leb-true _ _ full))))
         λ left.
         let free : t.sections < length rows₀ / 3 = leb-false (length rows₀ / 3) t.sections left in
         goes (passed_of (told_of f) s next) going
         (rw (
-          row-stored s free,
-          line-stored line room-left,
-          sections-more free,
+          row_stored s free,
+          line_stored line room-left,
+          sections_more free,
           lines_more room-left,
-          submessage-more room-left,
+          submessage_more room-left,
         )
-        (lent.passed-behind 1 one wide file rows₀ lines₀ (length lines₀) (enough lines₀) kept
+        (lent.passed_behind 1 one wide file rows₀ lines₀ (length lines₀) (enough lines₀) kept
         (behind (with_submessage t.force (t.force.submessage + 1)) s next.cursor (place t.sections)) refl e c room-left free))
         (moves e)
 
-    turns-by : (v : Seen) → seen file t.reading ≡ v → After (by_seen v room f)
+    turns_by : (v : Seen) → seen file t.reading ≡ v → After (by_seen v room f)
     unfolding by_seen taken_of closed_of misplaced_of
-    turns-by (Passes s next) e =
+    turns_by (Passes s next) e =
         by_test After (completes t.reading.order s.number)
         (λ c. by_test After (leb (length lines₀) t.lines)
         (λ full. ends _ (lent.no_line 1 one wide file rows₀ lines₀ (length lines₀) (enough lines₀) kept e c (leb-true _ _ full)))
-        λ left. fits-behind s next e c (leb-false (length lines₀) t.lines left))
+        λ left. fits_behind s next e c (leb-false (length lines₀) t.lines left))
         λ c. fits s next e c
-    turns-by (Closes s next) e =
+    turns_by (Closes s next) e =
         by_test After (leb (length rows₀ / 3) t.sections)
-        (λ full. ends _ (lent.no-row-closing 1 one wide file rows₀ lines₀ (length lines₀) (enough lines₀) kept e (leb-true _ _ full)))
+        (λ full. ends _ (lent.no_row_closing 1 one wide file rows₀ lines₀ (length lines₀) (enough lines₀) kept e (leb-true _ _ full)))
         λ left.
         let free : t.sections < length rows₀ / 3 = leb-false (length rows₀ / 3) t.sections left in
         by_test After (leb (length lines₀) t.lines)
-        (λ full. ends _ (lent.no-line-closing 1 one wide file rows₀ lines₀ (length lines₀) (enough lines₀) kept e free (leb-true _ _ full)))
+        (λ full. ends _ (lent.no_line_closing 1 one wide file rows₀ lines₀ (length lines₀) (enough lines₀) kept e free (leb-true _ _ full)))
         λ more_left.
         let room-left : t.lines < length lines₀ = leb-false (length lines₀) t.lines more_left in
         goes (shut_of f s next) going
         (rw (
-          row-stored s free,
-          line-stored (line_of t.force (ClosedAt (place t.sections))) room-left,
-          sections-more free,
+          row_stored s free,
+          line_stored (line_of t.force (ClosedAt (place t.sections))) room-left,
+          sections_more free,
           lines_more room-left,
-          message-more room-left,
+          message_more room-left,
         )
         (lent.closed 1 one wide file rows₀ lines₀ (length lines₀) (enough lines₀) kept e free room-left))
-        (moves-closing e)
-    turns-by (Misplaced s) e =
+        (moves_closing e)
+    turns_by (Misplaced s) e =
         by_test After (completes t.reading.order s.number)
         (λ c. by_test After (leb (length lines₀) t.lines)
-        (λ full. ends _ (lent.no-line-misplaced 1 one wide file rows₀ lines₀ (length lines₀) (enough lines₀) kept e c (leb-true _ _ full)))
+        (λ full. ends _ (lent.no_line_misplaced 1 one wide file rows₀ lines₀ (length lines₀) (enough lines₀) kept e c (leb-true _ _ full)))
         λ left.
         let room-left : t.lines < length lines₀ = leb-false (length lines₀) t.lines left in
         stops (refused_of (told_of f) (refusal.Misplaced s.number) s) refl
-        (rw (row_none t.last rows, line-stored line room-left, lines_more room-left) (lent.misplaced-line 1 one wide file rows₀ lines₀ (length lines₀) (enough lines₀) kept e c room-left)))
+        (rw (row_none t.last rows, line_stored line room-left, lines_more room-left) (lent.misplaced_line 1 one wide file rows₀ lines₀ (length lines₀) (enough lines₀) kept e c room-left)))
         λ c. ends _ (lent.misplaced 1 one wide file rows₀ lines₀ (length lines₀) (enough lines₀) kept e c)
-    turns-by (NoGrid s) e = ends _ (lent.no_grid 1 one wide file rows₀ lines₀ (length lines₀) (enough lines₀) kept e)
-    turns-by Clean e = ends _ (lent.clean 1 one wide file rows₀ lines₀ (length lines₀) (enough lines₀) kept e)
-    turns-by InputOver e = ends _ (lent.input-over 1 one wide file rows₀ lines₀ (length lines₀) (enough lines₀) kept e)
-    turns-by (Unreadable fault offset) e = ends _ (lent.unreadable 1 one wide file rows₀ lines₀ (length lines₀) (enough lines₀) kept e)
+    turns_by (NoGrid s) e = ends _ (lent.no_grid 1 one wide file rows₀ lines₀ (length lines₀) (enough lines₀) kept e)
+    turns_by Clean e = ends _ (lent.clean 1 one wide file rows₀ lines₀ (length lines₀) (enough lines₀) kept e)
+    turns_by InputOver e = ends _ (lent.input_over_lem 1 one wide file rows₀ lines₀ (length lines₀) (enough lines₀) kept e)
+    turns_by (Unreadable fault offset) e = ends _ (lent.unreadable 1 one wide file rows₀ lines₀ (length lines₀) (enough lines₀) kept e)
 
     turned : After (turn_of file room t)
     unfolding turn_of
-    turned = turns-by (seen file t.reading) refl
+    turned = turns_by (seen file t.reading) refl
 
   -- turns of which a row is all that comes, and the one behind them
   module _ (fits₁ : length rows₀ < 2 ^ 64) (fits₂ : length lines₀ < 2 ^ 64) (lines : List Line) where
@@ -328,7 +328,7 @@ module _ (file rows₀ : List ℕ) (lines₀ : List Line) where
             → Left t (onward o (steps_of file within most (fresh_of u) stored) (record { tally = u; rows = stored }))
         by_only More e = record { held = after.held; less = after.less }
         by_only (Row s next) e =
-            let is = row-turn file within t e in
+            let is = row_turn file within t e in
             let on : u.going ≡ true = ap (λ (x : Tally). x.going) is ∙ going in
             let none : lines_after u.due u.slot u.line lines ≡ lines
             = ap (λ (x : Tally). lines_after x.due u.slot u.line lines) is ∙ line_none u.slot u.line lines in

@@ -52,7 +52,7 @@ use Rattle.walk_laws.proofs.WholeWalk.{on, walk_refused_exactly_when}
 use Rattle.walk_laws.proofs.OneRead.{section_there}
 use Rattle.walk_laws.proofs.WalksTo.{WalksTo, from_start, step_on, comes_walks_to}
 use Rattle.walk_laws.proofs.Passing.{Way, within, gone_further, shut, Left, nothing, one_line, Passing, passing, halting}
-use Rattle.walk_laws.proofs.Induction.{each-stand, of_walk_lem}
+use Rattle.walk_laws.proofs.Induction.{each_stand, of_walk_lem}
 
 -- no more lines than sections, and one fewer inside a message
 pub record Ample (r : Reached) : Type 0 where
@@ -99,7 +99,7 @@ fewer_than_octets room file = (
   where
     sections : (at rest : ℕ) (r : Reached) → length (on room file at rest r).sections ≤ length file - at
     sections =
-        each-stand room file (λ at rest r t. length t.sections ≤ length file - at) (λ at rest r how same. omega arith)
+        each_stand room file (λ at rest r t. length t.sections ≤ length file - at) (λ at rest r how same. omega arith)
         (λ at rest r s c lines why e f. omega arith)
         (λ at rest r s c lines closed reached later e f so. let forward = goes (reads_as file at rest e) in omega arith)
 
@@ -110,7 +110,7 @@ fewer_than_octets room file = (
     lines : (at rest : ℕ) (r : Reached) → Ample r
         → r.lines + length (on room file at rest r).lines ≤ r.sections + length (on room file at rest r).sections
     lines =
-        each-stand room file (λ at rest r t. Ample r → r.lines + length t.lines ≤ r.sections + length t.sections)
+        each_stand room file (λ at rest r t. Ample r → r.lines + length t.lines ≤ r.sections + length t.sections)
         (λ at rest r how same ample. let l = ample.low in omega arith)
         (λ at rest r s c lines why e f ample. left r lines ample (halting room r s f).told)
         (λ at rest r s c lines closed reached later e f so ample.
@@ -130,7 +130,7 @@ within_room room file = (
     sections : (at rest : ℕ) (r : Reached) → r.sections ≤ room.rows
         → r.sections + length (on room file at rest r).sections ≤ room.rows
     sections =
-        each-stand room file (λ at rest r t. r.sections ≤ room.rows → r.sections + length t.sections ≤ room.rows)
+        each_stand room file (λ at rest r t. r.sections ≤ room.rows → r.sections + length t.sections ≤ room.rows)
         (λ at rest r how same h. omega arith)
         (λ at rest r s c lines why e f h. omega arith)
         (λ at rest r s c lines closed reached later e f so h.
@@ -142,7 +142,7 @@ within_room room file = (
 
     lines : (at rest : ℕ) (r : Reached) → r.lines ≤ room.lines → r.lines + length (on room file at rest r).lines ≤ room.lines
     lines =
-        each-stand room file (λ at rest r t. r.lines ≤ room.lines → r.lines + length t.lines ≤ room.lines)
+        each_stand room file (λ at rest r t. r.lines ≤ room.lines → r.lines + length t.lines ≤ room.lines)
         (λ at rest r how same h. omega arith)
         (λ at rest r s c lines why e f h. (halting room r s f).held h)
         (λ at rest r s c lines closed reached later e f so h.
@@ -171,8 +171,8 @@ one_earlier from s sections (ClosedAt p) (low, eight) =
 pub ends_are_told : EndsAreTold
 ends_are_told room file =
     of_walk_lem room file (λ t. Every (λ line. EndIsTold t.sections line.end) t.lines) (λ how. tt)
-    (every_map (on room file 0 0 (at_start file)).lines (λ line. at-0 line.end)
-    (each-stand room file (λ at rest r t. Every (λ line. EndsIn r.sections t.sections line.end) t.lines)
+    (every_map (on room file 0 0 (at_start file)).lines (λ line. at_0 line.end)
+    (each_stand room file (λ at rest r t. Every (λ line. EndsIn r.sections t.sections line.end) t.lines)
     (λ at rest r how same. tt)
     (λ at rest r s c lines why e f. left r lines (halting room r s f).told)
     (λ at rest r s c lines closed reached later e f so.
@@ -182,10 +182,10 @@ ends_are_told room file =
     (subst (λ (k : ℕ). Every (λ line. EndsIn k later.sections line.end) later.lines) p.one so)))
     0 0 (at_start file)))
   where
-    at-0 : (end : MessageEnd) → EndsIn 0 (on room file 0 0 (at_start file)).sections end
+    at_0 : (end : MessageEnd) → EndsIn 0 (on room file 0 0 (at_start file)).sections end
         → EndIsTold (on room file 0 0 (at_start file)).sections end
-    at-0 GoesOn so = tt
-    at-0 (ClosedAt p) (low, eight) = rw sub-zero at eight
+    at_0 GoesOn so = tt
+    at_0 (ClosedAt p) (low, eight) = rw sub-zero at eight
 
     goes_on : (from : ℕ) (sections : List Section) (end : MessageEnd) → end ≡ GoesOn → EndsIn from sections end
     goes_on from sections end e = subst (EndsIn from sections) (sym e) tt
@@ -209,7 +209,7 @@ ends_are_told room file =
 pub messages_are_closers : MessagesAreClosers
 messages_are_closers room file =
     of_walk_lem room file (λ t. t.messages ≡ closers t.lines) (λ how. refl)
-    (each-stand room file (λ at rest r t. t.messages ≡ closers t.lines) (λ at rest r how same. refl)
+    (each_stand room file (λ at rest r t. t.messages ≡ closers t.lines) (λ at rest r how same. refl)
     (λ at rest r s c lines why e f. left r lines (halting room r s f).told)
     (λ at rest r s c lines closed reached later e f so. go r s lines closed reached (passing room r s f).way later so) 0 0 (at_start file))
   where

@@ -44,10 +44,10 @@ module _ (room : Room) (file : List ℕ) (Q : ℕ → ℕ → Reached → Told �
     (pass : (at rest : ℕ) (r : Reached) (s : Section) (cursor : Cursor) (lines : List Line) (closed : ℕ) (reached : Reached) (later : Told)
     → read_at file at rest ≡ read.Section s cursor → judgement room r s ≡ passes lines closed reached
     → Q cursor.at.0 cursor.rest reached later → Q at rest r (gone s lines closed later)) where
-  by-reads : (fuel at rest : ℕ) (r : Reached) → length file - at < fuel → Q at rest r (on room file at rest r)
-  by-reads zero at rest r few = absurd (omega arith)
-  by-reads (suc fuel) at rest r few =
-      subst (Q at rest r) (sym (on_next room file at rest r)) (go (read_at file at rest) refl (by-reads fuel))
+  by_reads : (fuel at rest : ℕ) (r : Reached) → length file - at < fuel → Q at rest r (on room file at rest r)
+  by_reads zero at rest r few = absurd (omega arith)
+  by_reads (suc fuel) at rest r few =
+      subst (Q at rest r) (sym (on_next room file at rest r)) (go (read_at file at rest) refl (by_reads fuel))
     where
       judged : (s : Section) (cursor : Cursor) → read_at file at rest ≡ read.Section s cursor
           → ((reached : Reached) → Q cursor.at.0 cursor.rest reached (on room file cursor.at.0 cursor.rest reached))
@@ -66,8 +66,8 @@ module _ (room : Room) (file : List ℕ) (Q : ℕ → ℕ → Reached → Told �
       go read.Over e later = over at rest r _ (λ other. on_next other file at rest r ∙ ap (after other file r) e)
       go (read.Refused fault offset) e later = over at rest r _ (λ other. on_next other file at rest r ∙ ap (after other file r) e)
 
-  pub each-stand : (at rest : ℕ) (r : Reached) → Q at rest r (on room file at rest r)
-  each-stand at rest r = by-reads (suc (length file - at)) at rest r (omega arith)
+  pub each_stand : (at rest : ℕ) (r : Reached) → Q at rest r (on room file at rest r)
+  each_stand at rest r = by_reads (suc (length file - at)) at rest r (omega arith)
 
 -- and of a whole walk
 pub of_walk_lem : (room : Room) (file : List ℕ) (Q : Told → Type 0) → ((how : Outcome) → Q (ends how)) → Q (on room file 0 0 (at_start file))

@@ -29,7 +29,7 @@ use Rattle.walk_laws.specs.Laws.{
   NoEndAtPlace0,
 }
 use Rattle.walk_laws.proofs.Passing.{Way, within, gone_further, shut, passing}
-use Rattle.walk_laws.proofs.Induction.{each-stand, of_walk_lem}
+use Rattle.walk_laws.proofs.Induction.{each_stand, of_walk_lem}
 
 -- sections that reads from a place and a rest on give
 abbrev pub Run : List ℕ → ℕ → ℕ → List Section → Type 0
@@ -39,7 +39,7 @@ Run file at rest (s ∷ more) = (c : Cursor) × (read_at file at rest ≡ read.S
 pub told_run : (room : Room) (file : List ℕ) → Run file 0 0 (walked room file).sections
 told_run room file =
     of_walk_lem room file (λ t. Run file 0 0 t.sections) (λ how. tt)
-    (each-stand room file (λ at rest r t. Run file at rest t.sections) (λ at rest r how same. tt) (λ at rest r s c lines why e f. tt)
+    (each_stand room file (λ at rest r t. Run file at rest t.sections) (λ at rest r how same. tt) (λ at rest r s c lines why e f. tt)
     (λ at rest r s c lines closed reached later e f so. (c, e, so)) 0 0 (at_start file))
 
 abbrev NotZero : Section → Type 0
@@ -141,7 +141,7 @@ each_end_closes_a_message room file before eighth after listed last = go (last_z
 pub messages_are_ends : MessagesAreEnds
 messages_are_ends room file =
     of_walk_lem room file (λ t. t.messages ≡ count_of 8 t.sections) (λ how. refl)
-    (each-stand room file (λ at rest r t. t.messages ≡ count_of 8 t.sections) (λ at rest r how same. refl)
+    (each_stand room file (λ at rest r t. t.messages ≡ count_of 8 t.sections) (λ at rest r how same. refl)
     (λ at rest r s c lines why e f. refl)
     (λ at rest r s c lines closed reached later e f so. go r s lines closed reached (passing room r s f).way later so) 0 0 (at_start file))
   where

@@ -114,12 +114,12 @@ module _ (file more : List ℕ) where
   same_number : (at width : ℕ) → at + width ≤ length file → be_at longer at width ≡ be_at file at width
   same_number at width h = be_same longer file at at width (λ i below. same_octet (at + i) (omega arith))
 
-  spells-there : (at a b c d : ℕ) → at + 4 ≤ length file → Spells file at a b c d → Spells longer at a b c d
-  spells-there at a b c d h (p, q, r, t) =
+  spells_there : (at a b c d : ℕ) → at + 4 ≤ length file → Spells file at a b c d → Spells longer at a b c d
+  spells_there at a b c d h (p, q, r, t) =
       (same_octet at (omega arith) ∙ p, same_octet (at + 1) (omega arith) ∙ q, same_octet (at + 2) (omega arith) ∙ r, same_octet (at + 3) (omega arith) ∙ t)
 
-  spells-back : (at a b c d : ℕ) → at + 4 ≤ length file → Spells longer at a b c d → Spells file at a b c d
-  spells-back at a b c d h (p, q, r, t) = (
+  spells_back : (at a b c d : ℕ) → at + 4 ≤ length file → Spells longer at a b c d → Spells file at a b c d
+  spells_back at a b c d h (p, q, r, t) = (
     sym (same_octet at (omega arith)) ∙ p,
     sym (same_octet (at + 1) (omega arith)) ∙ q,
     sym (same_octet (at + 2) (omega arith)) ∙ r,
@@ -127,21 +127,21 @@ module _ (file more : List ℕ) where
   )
 
   -- the first start is the first one still
-  first-there : (at g : ℕ) → FirstGrib file at g → FirstGrib longer at g
-  first-there at g (from, (room, letters), none) =
+  first_there : (at g : ℕ) → FirstGrib file at g → FirstGrib longer at g
+  first_there at g (from, (room, letters), none) =
       let n = long in (
         from,
-        (omega arith, spells-there g 71 82 73 66 (omega arith) letters),
-        λ k after below there. none k after below (omega arith, spells-back k 71 82 73 66 (omega arith) there.1),
+        (omega arith, spells_there g 71 82 73 66 (omega arith) letters),
+        λ k after below there. none k after below (omega arith, spells_back k 71 82 73 66 (omega arith) there.1),
       )
 
   -- a section that is well read, whole in the file, is so still
-  well-there : (at rest rest' : ℕ) (s : Section) → WellRead file at rest s rest' → s.offset.0 + s.length ≤ length file
+  well_there : (at rest rest' : ℕ) (s : Section) → WellRead file at rest s rest' → s.offset.0 + s.length ≤ length file
       → WellRead longer at rest s rest'
-  well-there at rest rest' s (hand0 {g} z first so) whole =
+  well_there at rest rest' s (hand0 {g} z first so) whole =
       let room = first.1.0 in
-      hand0 z (first-there at g first) (rw (same_octet (g + 7) (omega arith), same_number (g + 8) 8 (omega arith)) so)
-  well-there at rest rest' s (hand8 z i (here, behind, (no2, (no5, _)))) whole =
+      hand0 z (first_there at g first) (rw (same_octet (g + 7) (omega arith), same_number (g + 8) 8 (omega arith)) so)
+  well_there at rest rest' s (hand8 z i (here, behind, (no2, (no5, _)))) whole =
       let n = long in
       let o = ap (λ (s : Section). s.offset.0) here in
       let l = ap (λ (s : Section). s.length) here in
@@ -150,10 +150,10 @@ module _ (file more : List ℕ) where
         behind,
         (
           (λ h. omega (arith, h.1)),
-          ((λ other. no5 (λ there. other (spells-there at 55 55 55 55 (omega arith) there))), tt),
+          ((λ other. no5 (λ there. other (spells_there at 55 55 55 55 (omega arith) there))), tt),
         ),
       )
-  well-there at rest rest' s (behind_header a b i (here, behind, (no2, (no6, (no7, (no2', (no2'', (no8, (no9, _))))))))) whole =
+  well_there at rest rest' s (behind_header a b i (here, behind, (no2, (no6, (no7, (no2', (no2'', (no8, (no9, _))))))))) whole =
       let n = long in
       let o = ap (λ (s : Section). s.offset.0) here in
       let l = ap (λ (s : Section). s.length) here in
@@ -178,18 +178,18 @@ module _ (file more : List ℕ) where
       ))
 
   -- fewer octets than are missing: that many fewer are
-  cut-there : (at rest o m : ℕ) → Cut file at rest o m → length more < m → CannotBeRead longer at rest 2 o (m - length more)
-  cut-there at rest o m (end_cut z i here h f) few =
+  cut_there : (at rest o m : ℕ) → Cut file at rest o m → length more < m → CannotBeRead longer at rest 2 o (m - length more)
+  cut_there at rest o m (end_cut z i here h f) few =
       let n = long in hand8 z (omega arith) (here, inl ((omega (arith, h.0), omega arith), refl, omega arith))
-  cut-there at rest o m (header_cut a b i here h f) few =
+  cut_there at rest o m (header_cut a b i here h f) few =
       let n = long in behind_header a b (omega arith) (here, inl ((omega (arith, h.0), omega arith), refl, omega arith))
-  cut-there at rest o m (payload_cut a b i here no2 no6 no7 h f) few =
+  cut_there at rest o m (payload_cut a b i here no2 no6 no7 h f) few =
       let n = long in
       let room = headed (left file at) (omega arith) no2 in
       behind_header a b (omega arith)
       (rw (same_number at 4 (omega arith), same_octet (at + 4) (omega arith))
       (here, inr ((λ c. omega (arith, c.1)), inr (no6, inr (no7, inl ((h.0, h.1, omega arith), refl, omega arith))))))
-  cut-there at rest o m (indicator_cut a b i here no2 no6 no7 h f) few =
+  cut_there at rest o m (indicator_cut a b i here no2 no6 no7 h f) few =
       let n = long in
       let room = headed (left file at) (omega arith) no2 in
       behind_header a b (omega arith)
@@ -208,11 +208,11 @@ module _ (file more : List ℕ) where
       ))
 
   -- the walk comes to the same stands in the file
-  comes-there : {room : Room} {b : Stand} → Comes room file b → b.at ≤ length file → Comes room longer b
-  comes-there started inside = started
-  comes-there (goes_further {b} {s} {rest'} c well none) inside =
+  comes_there : {room : Room} {b : Stand} → Comes room file b → b.at ≤ length file → Comes room longer b
+  comes_there started inside = started
+  comes_there (goes_further {b} {s} {rest'} c well none) inside =
       let from = from_there file b.at b.rest rest' s well in
-      goes_further (comes-there c (omega arith)) (well-there b.at b.rest rest' s well inside) none
+      goes_further (comes_there c (omega arith)) (well_there b.at b.rest rest' s well inside) none
 
 -- a section that is well read is refused with 11 and more
 from_11 : (room : Room) (b : Stand) (number n d : ℕ) → FirstRow (rows_after_read room b number) n d → 11 ≤ n
@@ -249,8 +249,8 @@ pub each_octet_counts : EachOctetCounts
 each_octet_counts room file more p o m lacks few short =
     let k = lacking room file p o m lacks in
     let b = k.stand in
-    let comes = comes-there file more k.comes (omega (arith, cut_inside k.cut)) in
-    let cut = cut-there file more b.at b.rest o m k.cut few in
+    let comes = comes_there file more k.comes (omega (arith, cut_inside k.cut)) in
+    let cut = cut_there file more b.at b.rest o m k.cut few in
     (walk_refused_exactly_when room (file ++ more) 2 p o (m - length more) (λ z. omega arith)).1
     (rw k.place (unread short comes cut))
 

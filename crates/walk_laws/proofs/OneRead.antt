@@ -55,26 +55,26 @@ module _ (file : List ℕ) (at rest : ℕ) where
     both (behind_header a b i p) (behind_header a' b' i' q) = behind_header a b i (p, q)
 
   -- or none
-  pub none-there : (So : Listed → ℕ → Rows → Type 0) → InHand file at rest So → NoneInHand file at rest → ⊥
-  none-there So (hand0 {g} z first p) (no_start z' none) = none g first.0 first.1
-  none-there So (hand0 z first p) (no_octet a i) = a z
-  none-there So (hand8 z i p) (no_start z' none) = omega arith
-  none-there So (hand8 z i p) (no_octet a i') = omega arith
-  none-there So (behind_header a b i p) (no_start z none) = a z
-  none-there So (behind_header a b i p) (no_octet a' i') = omega arith
+  pub none_there : (So : Listed → ℕ → Rows → Type 0) → InHand file at rest So → NoneInHand file at rest → ⊥
+  none_there So (hand0 {g} z first p) (no_start z' none) = none g first.0 first.1
+  none_there So (hand0 z first p) (no_octet a i) = a z
+  none_there So (hand8 z i p) (no_start z' none) = omega arith
+  none_there So (hand8 z i p) (no_octet a i') = omega arith
+  none_there So (behind_header a b i p) (no_start z none) = a z
+  none_there So (behind_header a b i p) (no_octet a' i') = omega arith
 
-  pub same-refusal : (n o d n' o' d' : ℕ) → CannotBeRead file at rest n o d → CannotBeRead file at rest n' o' d'
+  pub same_refusal : (n o d n' o' d' : ℕ) → CannotBeRead file at rest n o d → CannotBeRead file at rest n' o' d'
       → (n ≡ n') × (o ≡ o') × (d ≡ d')
-  same-refusal n o d n' o' d' p q =
+  same_refusal n o d n' o' d' p q =
       in_hand_lem (both _ _ p q)
       (λ s behind rows so. let same = first_same rows n d n' d' so.0.1 so.1.1 in (same.0, so.0.0 ∙ sym so.1.0, same.1))
 
-  pub never-well : (n o d : ℕ) (s : Listed) (rest' : ℕ) → CannotBeRead file at rest n o d → WellRead file at rest s rest' → ⊥
-  never-well n o d s rest' p q = in_hand_lem (both _ _ p q) (λ here behind rows so. first_holds rows n d so.0.1 so.1.2)
+  pub never_well : (n o d : ℕ) (s : Listed) (rest' : ℕ) → CannotBeRead file at rest n o d → WellRead file at rest s rest' → ⊥
+  never_well n o d s rest' p q = in_hand_lem (both _ _ p q) (λ here behind rows so. first_holds rows n d so.0.1 so.1.2)
 
-  pub same-section : (s s' : Listed) (left left' : ℕ) → WellRead file at rest s left → WellRead file at rest s' left'
+  pub same_section : (s s' : Listed) (left left' : ℕ) → WellRead file at rest s left → WellRead file at rest s' left'
       → (s ≡ s') × (left ≡ left')
-  same-section s s' left left' p q =
+  same_section s s' left left' p q =
       in_hand_lem (both _ _ p q) (λ here behind rows so. (so.0.0 ∙ sym so.1.0, so.0.1 ∙ sym so.1.1))
 
 -- the sections with a header are 1 to 7
@@ -169,9 +169,9 @@ module _ (file : List ℕ) (at rest : ℕ) where
   abbrev T : Read → Type 0
   T = Tells file at rest
 
-  tells-indicator : (g : ℕ) → rest ≡ 0 → FirstGrib file at g → T (indicator_at file g)
+  tells_indicator : (g : ℕ) → rest ≡ 0 → FirstGrib file at g → T (indicator_at file g)
   unfolding indicator_at fault_number fault_detail
-  tells-indicator g z first =
+  tells_indicator g z first =
       by_test T (not (eqb (edition file g) 2)) (λ e. refuses (hand0 z first (refl, inl (not-true _ _ e, refl, refl)))) λ e.
       let same = not-false _ _ e in
       by_test T (ltb (total file g) 16)
@@ -188,15 +188,15 @@ module _ (file : List ℕ) (at rest : ℕ) where
           go true p q = eqb-true a b p
           go false p q = let y : ◌≡◌ {A = ℕ} 0 1 = cc in absurd (omega arith)
 
-  tells-message : (found : Found) → rest ≡ 0 → IsNextStart file at found → T (message_at file found)
+  tells_message : (found : Found) → rest ≡ 0 → IsNextStart file at found → T (message_at file found)
   unfolding message_at
-  tells-message (At g) z first = tells-indicator g z (first_grib file at g first)
-  tells-message Nowhere z none = over (no_start z (λ g from (room, letters). none g from (is_start file g room (says_so file g 71 82 73 66 letters))))
+  tells_message (At g) z first = tells_indicator g z (first_grib file at g first)
+  tells_message Nowhere z none = over (no_start z (λ g from (room, letters). none g from (is_start file g room (says_so file g 71 82 73 66 letters))))
 
   module _ (inside : at < length file) where
-    tells-end : rest ≡ 4 → T (end_at file at)
+    tells_end : rest ≡ 4 → T (end_at file at)
     unfolding end_at fault_number fault_detail
-    tells-end last =
+    tells_end last =
         by_test T (ltb (left file at) 4)
         (λ e.
         let k = ltb-true (left file at) 4 e in
@@ -207,63 +207,63 @@ module _ (file : List ℕ) (at rest : ℕ) where
         refuses (hand8 last inside (refl, inr (no2, inl ((λ there. never_both (says_so file at 55 55 55 55 there) e), refl, refl))))
 
     module _ (within : Not (rest ≡ 0)) (not_last : Not (rest ≡ 4)) where
-      refuses-here : (fault : Fault) → FirstRow (rows_behind_header file at rest) (fault_number fault) (fault_detail fault) → T (refused_at fault at)
-      refuses-here fault first = refuses (behind_header within not_last inside (refl, first))
+      refuses_here : (fault : Fault) → FirstRow (rows_behind_header file at rest) (fault_number fault) (fault_detail fault) → T (refused_at fault at)
+      refuses_here fault first = refuses (behind_header within not_last inside (refl, first))
 
       -- the first row of a section whose payload is cut
-      cut-row : Not (HeaderCut file at) → Not (LengthUnder5 file at) → Not (NumberNot1To7 file at) → 1 ≤ stated_number file at
+      cut_row : Not (HeaderCut file at) → Not (LengthUnder5 file at) → Not (NumberNot1To7 file at) → 1 ≤ stated_number file at
           → ((stated_number file at ≤ 6) × (left file at < stated_length file at))
           ⊎ ((stated_number file at ≡ 6) × (stated_length file at ≡ 5) × (left file at ≡ 5))
           → FirstRow (rows_behind_header file at rest) 2 (missing (stated_length file at) (left file at))
-      cut-row no2 no6 no7 low (inl (high, short)) =
+      cut_row no2 no6 no7 low (inl (high, short)) =
           let count = missing_past (stated_length file at) (left file at) short in
           inr (no2, inr (no6, inr (no7, inl ((low, high, omega arith), refl, omega arith))))
-      cut-row no2 no6 no7 low (inr (six, size, ends)) =
+      cut_row no2 no6 no7 low (inr (six, size, ends)) =
           let count = missing_none_past (stated_length file at) (left file at) (omega arith) in
           inr (no2, inr (no6, inr (no7, inr ((λ h. omega (arith, h.2)), inl ((six, size, omega arith), refl, count)))))
 
-      tells-payload : (least : LeastOf) → least_payload_of (stated_number file at) ≡ least → Headed (stated_number file at) least
+      tells_payload : (least : LeastOf) → least_payload_of (stated_number file at) ≡ least → Headed (stated_number file at) least
           → 5 ≤ left file at → 5 ≤ stated_length file at
           → T (payload_at least at (stated_number file at) (stated_length file at) (left file at) rest)
       unfolding payload_at fault_number fault_detail
-      tells-payload NoHeader kind (bare other) l5 n5 =
-          refuses-here _ (inr ((λ h. omega (arith, h.1)), inr ((λ h. omega arith), inl (other, refl, refl))))
-      tells-payload (Octets least) kind (headed low high same) l5 n5 =
+      tells_payload NoHeader kind (bare other) l5 n5 =
+          refuses_here _ (inr ((λ h. omega (arith, h.1)), inr ((λ h. omega arith), inl (other, refl, refl))))
+      tells_payload (Octets least) kind (headed low high same) l5 n5 =
           let no2 : Not ((1 ≤ left file at) × (left file at ≤ 4)) = λ h. omega (arith, h.1) in
           let no6 : Not (stated_length file at < 5) = λ h. omega arith in
           let no7 : Not (Not ((1 ≤ stated_number file at) × (stated_number file at ≤ 7))) = λ h. h (low, high) in
           by_test T (is_cut (stated_number file at) (stated_length file at) (left file at))
-          (λ e. refuses-here _ (cut-row no2 no6 no7 low (cut_is _ _ _ e l5 n5 high))) λ e.
+          (λ e. refuses_here _ (cut_row no2 no6 no7 low (cut_is _ _ _ e l5 n5 high))) λ e.
           let whole = whole_is _ _ _ e in
           let no2' : Not (PayloadCut file at) = λ h. whole.0 (h.1, omega (arith, h.2)) in
           let no2'' : Not (IndicatorCut file at) = λ h. whole.1 (h.0, omega (arith, h.1, h.2)) in
           by_test T (ltb (payload file at) least)
-          (λ e. refuses-here _ (inr (no2, inr (no6, inr (no7, inr (no2', inr (no2'', inl (rw same (ltb-true _ _ e), refl, refl)))))))) λ e.
+          (λ e. refuses_here _ (inr (no2, inr (no6, inr (no7, inr (no2', inr (no2'', inl (rw same (ltb-true _ _ e), refl, refl)))))))) λ e.
           let no8 : Not (payload file at < least_octets (stated_number file at)) =
           rw same (λ h. let k = ltb-false (payload file at) least e in omega arith) in
           by_test T (ltb rest (stated_length file at))
-          (λ e. refuses-here _ (inr (no2, inr (no6, inr (no7, inr (no2', inr (no2'', inr (no8, inl (ltb-true _ _ e, refl, refl))))))))) λ e.
+          (λ e. refuses_here _ (inr (no2, inr (no6, inr (no7, inr (no2', inr (no2'', inr (no8, inl (ltb-true _ _ e, refl, refl))))))))) λ e.
           let no9 : Not (rest < stated_length file at) = λ h. let k = ltb-false rest (stated_length file at) e in omega arith in
           reads (behind_header within not_last inside (refl, refl, (no2, (no6, (no7, (no2', (no2'', (no8, (no9, tt)))))))))
 
-      tells-header : T (header_at file at rest)
+      tells_header : T (header_at file at rest)
       unfolding header_at fault_number fault_detail
-      tells-header =
+      tells_header =
           by_test T (ltb (left file at) 5)
-          (λ e. let k = ltb-true (left file at) 5 e in refuses-here _ (inl ((omega arith, omega arith), refl, refl))) λ e.
+          (λ e. let k = ltb-true (left file at) 5 e in refuses_here _ (inl ((omega arith, omega arith), refl, refl))) λ e.
           let l5 = ltb-false (left file at) 5 e in
           by_test T (ltb (stated_length file at) 5)
-          (λ e. refuses-here _ (inr ((λ h. omega (arith, h.1)), inl (ltb-true _ _ e, refl, refl)))) λ e.
-          tells-payload (least_payload_of (stated_number file at)) refl (by_kind (stated_number file at)) l5 (ltb-false _ _ e)
+          (λ e. refuses_here _ (inr ((λ h. omega (arith, h.1)), inl (ltb-true _ _ e, refl, refl)))) λ e.
+          tells_payload (least_payload_of (stated_number file at)) refl (by_kind (stated_number file at)) l5 (ltb-false _ _ e)
 
   pub tells : T (read_at file at rest)
   unfolding read_at
   tells =
-      by_test T (eqb rest 0) (λ e. tells-message (next_start file at) (eqb-true _ _ e) (next_start_first file at)) λ within.
+      by_test T (eqb rest 0) (λ e. tells_message (next_start file at) (eqb-true _ _ e) (next_start_first file at)) λ within.
       let some = eqb-false rest 0 within in
       by_test T (leb (length file) at) (λ e. over (no_octet some (leb-true _ _ e))) λ e.
       let inside = leb-false (length file) at e in
-      by_test T (eqb rest 4) (λ e. tells-end inside (eqb-true _ _ e)) λ e. tells-header inside some (eqb-false rest 4 e)
+      by_test T (eqb rest 4) (λ e. tells_end inside (eqb-true _ _ e)) λ e. tells_header inside some (eqb-false rest 4 e)
 
 -- a read that is refused, with its number and detail
 pub record ReadRefused (file : List ℕ) (at rest n offset d : ℕ) : Type 0 where
@@ -278,10 +278,10 @@ refused_there file at rest n o d v = go (read_at file at rest) refl (tells file 
   where
     go : (r : Read) → read_at file at rest ≡ r → Tells file at rest r → ReadRefused file at rest n o d
     go _ e (refuses {fault} {o = o'} u) =
-        let same = same-refusal file at rest n o d (fault_number fault) o' (fault_detail fault) v u in
+        let same = same_refusal file at rest n o d (fault_number fault) o' (fault_detail fault) v u in
         record { fault = fault; refuses = rw same.1 e; numbered = same.0; detailed = same.2 }
-    go _ e (reads {s} {rest'} w) = absurd (never-well file at rest n o d s rest' v w)
-    go _ e (over z) = absurd (none-there file at rest _ v z)
+    go _ e (reads {s} {rest'} w) = absurd (never_well file at rest n o d s rest' v w)
+    go _ e (over z) = absurd (none_there file at rest _ v z)
 
 pub section_there : (file : List ℕ) (at rest : ℕ) (s : Listed) (rest' : ℕ) → WellRead file at rest s rest'
     → read_at file at rest ≡ Section s (record { at = record { 0 = s.offset.0 + s.length }; rest = rest' })
@@ -289,15 +289,15 @@ section_there file at rest s rest' v = go (read_at file at rest) refl (tells fil
   where
     go : (r : Read) → read_at file at rest ≡ r → Tells file at rest r
         → read_at file at rest ≡ Section s (record { at = record { 0 = s.offset.0 + s.length }; rest = rest' })
-    go _ e (refuses {fault} {o} u) = absurd (never-well file at rest (fault_number fault) o (fault_detail fault) s rest' u v)
+    go _ e (refuses {fault} {o} u) = absurd (never_well file at rest (fault_number fault) o (fault_detail fault) s rest' u v)
     go _ e (reads {s = s'} {rest' = left} w) =
-        let same = same-section file at rest s s' rest' left v w in rw (same.0, same.1) e
-    go _ e (over z) = absurd (none-there file at rest _ v z)
+        let same = same_section file at rest s s' rest' left v w in rw (same.0, same.1) e
+    go _ e (over z) = absurd (none_there file at rest _ v z)
 
 pub none_read : (file : List ℕ) (at rest : ℕ) → NoneInHand file at rest → read_at file at rest ≡ Over
 none_read file at rest v = go (read_at file at rest) refl (tells file at rest)
   where
     go : (r : Read) → read_at file at rest ≡ r → Tells file at rest r → read_at file at rest ≡ Over
-    go _ e (refuses u) = absurd (none-there file at rest _ u v)
-    go _ e (reads w) = absurd (none-there file at rest _ w v)
+    go _ e (refuses u) = absurd (none_there file at rest _ u v)
+    go _ e (reads w) = absurd (none_there file at rest _ w v)
     go _ e (over z) = e

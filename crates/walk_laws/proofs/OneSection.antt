@@ -26,7 +26,7 @@ use Rattle.order.specs.declared.Order.TheVariants.{
 }
 use Rattle.order.specs.declared.Judged.{Judged}
 use Rattle.order.specs.declared.Judged.TheVariants as says
-use Rattle.order.proofs.Laws.{apart, completes_only, completes-there, starts-next}
+use Rattle.order.proofs.Laws.{apart, completes_only, completes_there, starts_next}
 use Rattle.index.specs.declared.line.Line.{Line}
 use Rattle.index.specs.Numbers.{refusal_number, refusal_detail}
 use Rattle.index.specs.declared.refusal.Refusal.{Refusal}
@@ -117,7 +117,7 @@ no_line AfterGrid n lines off ajar = refl
 no_line AfterProduct n lines off ajar = refl
 no_line AfterRepresentation n lines off ajar = refl
 no_line AfterBitMap n lines off ajar = refl
-no_line AfterData n lines off ajar = absurd (never_both (completes-there n (λ z. ajar (refl, z))) off)
+no_line AfterData n lines off ajar = absurd (never_both (completes_there n (λ z. ajar (refl, z))) off)
 no_line SubmessageStart n lines off ajar = refl
 
 -- what is reached by a section that is passed
@@ -147,16 +147,16 @@ module _ (room : Room) (r : Reached) (s : Section) where
   module _ (no14 : Not (GoesOn r.order s.number × LinesFull room (stand_of 0 0 r))) (r' : Reached) (same : r'.sections ≡ r.sections)
       (due : ClosesMessage r.order s.number → r'.lines ≡ r.lines)
       (told : Not (ClosesMessage r.order s.number) → r'.lines ≡ lines_behind r.order r.lines) where
-    judges-order : (j : Judged) (lines : List Line) → Stands r.order s.number j → J (by_order j room r' s lines)
+    judges_order : (j : Judged) (lines : List Line) → Stands r.order s.number j → J (by_order j room r' s lines)
     unfolding by_order fitted closing refusal_number refusal_detail
-    judges-order (says.Fits next) lines (fits leads can grid ajar) =
+    judges_order (says.Fits next) lines (fits leads can grid ajar) =
         by_test J (leb room.rows r'.sections)
         (λ e. let k = leb-true room.rows r'.sections e in
         halts (inr (no14, inr (grid, inr ((λ no. no can), inl (omega arith, refl, refl)))))) λ e.
         let k = leb-false room.rows r'.sections e in
         goes (no14, (grid, ((λ no. no can), ((λ full. omega arith), ((λ h. ajar h.0), tt)))))
         (record { one = omega arith; lines = told ajar; order = leads; last = rw same refl })
-    judges-order says.Closes lines (closes can grid shut) =
+    judges_order says.Closes lines (closes can grid shut) =
         let lines = due shut in
         by_test J (leb room.rows r'.sections)
         (λ e. let k = leb-true room.rows r'.sections e in
@@ -169,8 +169,8 @@ module _ (room : Room) (r : Reached) (s : Section) where
         let m = leb-false room.lines r'.lines f in
         goes (no14, (grid, ((λ no. no can), ((λ full. omega arith), ((λ h. let full = h.1 in omega arith), tt)))))
         (record { one = omega arith; lines = rw shut.0 (omega arith); order = rw shut.1 refl; last = rw same refl })
-    judges-order says.Misplaced lines (misplaced can't grid) = halts (inr (no14, inr (grid, inl (can't, refl, refl))))
-    judges-order says.NoGrid lines (no_grid grid) = halts (inr (no14, inl (grid, refl, refl)))
+    judges_order says.Misplaced lines (misplaced can't grid) = halts (inr (no14, inr (grid, inl (can't, refl, refl))))
+    judges_order says.NoGrid lines (no_grid grid) = halts (inr (no14, inl (grid, refl, refl)))
 
   pub judges : J (judgement room r s)
   unfolding judgement refusal_number refusal_detail
@@ -181,13 +181,13 @@ module _ (room : Room) (r : Reached) (s : Section) where
       by_test J (leb room.lines r.lines) (λ f. halts (inl ((on, leb-true _ _ f), refl, refl))) λ f.
       let m = leb-false room.lines r.lines f in
       let as-start : judged r.order s.number ≡ judged SubmessageStart s.number =
-      rw on.0 (starts-next s.number on.1) in
-      judges-order (λ h. let full = h.1 in omega arith) (gone_on r) refl (λ shut. absurd (on.1 shut.1)) (λ ajar. rw on.0 refl)
+      rw on.0 (starts_next s.number on.1) in
+      judges_order (λ h. let full = h.1 in omega arith) (gone_on r) refl (λ shut. absurd (on.1 shut.1)) (λ ajar. rw on.0 refl)
       (judged SubmessageStart s.number) _
       (subst (Stands r.order s.number) as-start (stands r.order s.number)))
       λ e.
-      judges-order
-      (λ h. never_both (completes-there s.number h.0.1) (subst (λ (o : Order). completes o s.number ≡ false) h.0.0 e))
+      judges_order
+      (λ h. never_both (completes_there s.number h.0.1) (subst (λ (o : Order). completes o s.number ≡ false) h.0.0 e))
       r refl (λ shut. refl) (λ ajar. sym (no_line r.order s.number r.lines e ajar))
       (judged r.order s.number) [] (stands r.order s.number)
 
@@ -200,8 +200,8 @@ module _ (room : Room) (r : Reached) (s : Section) where
     pub detailed : d ≡ refusal_detail why
 
   -- the rows say how a section is judged
-  pub stopped-there : (n d : ℕ) → FirstRow after_read n d → Stopped n d
-  stopped-there n d v = go (judgement room r s) refl judges
+  pub stopped_there : (n d : ℕ) → FirstRow after_read n d → Stopped n d
+  stopped_there n d v = go (judgement room r s) refl judges
     where
       go : (j : Judgement) → judgement room r s ≡ j → J j → Stopped n d
       go _ e (halts {lines} {why} first) =
@@ -216,8 +216,8 @@ module _ (room : Room) (r : Reached) (s : Section) where
     pub goes : judgement room r s ≡ passes lines closed reached
     pub arrives : Arrives r s reached
 
-  pub passed-there : NoRow after_read → PassesOn
-  passed-there v = go (judgement room r s) refl judges
+  pub passed_there : NoRow after_read → PassesOn
+  passed_there v = go (judgement room r s) refl judges
     where
       go : (j : Judgement) → judgement room r s ≡ j → J j → PassesOn
       go _ e (halts {why = why} first) = absurd (first_holds after_read (refusal_number why) (refusal_detail why) first v)

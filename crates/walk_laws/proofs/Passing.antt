@@ -13,7 +13,7 @@ use Rattle.order.specs.Order.{judged, completes, is_between}
 use Rattle.order.specs.declared.Order.TheVariants.{AfterData, SubmessageStart}
 use Rattle.order.specs.declared.Judged.{Judged}
 use Rattle.order.specs.declared.Judged.TheVariants as says
-use Rattle.order.proofs.Laws.{apart, fits_below, fits-open, closes-only, completes_only}
+use Rattle.order.proofs.Laws.{apart, fits_below, fits_open, closes_only, completes_only}
 use Rattle.index.specs.Lines.{place, line_of}
 use Rattle.index.specs.declared.line.MessageEnd.TheVariants.{GoesOn, ClosedAt}
 use Rattle.index.specs.declared.line.Line.{Line}
@@ -72,14 +72,14 @@ module _ (room : Room) (r : Reached) (s : Section) where
         counted = omega arith;
         held = λ h. h;
         few = omega arith;
-        way = within (fits_below r.order s.number e) (fits-open r.order s.number e);
+        way = within (fits_below r.order s.number e) (fits_open r.order s.number e);
       }
   plain off says.Closes e =
       by_test P (leb room.rows r.sections) (λ f. silent) λ f.
       let row = leb-false room.rows r.sections f in
       by_test P (leb room.lines r.lines) (λ g. silent) λ g.
       let line = leb-false room.lines r.lines g in
-      let k = closes-only r.order s.number e in
+      let k = closes_only r.order s.number e in
       record {
         row = row;
         one = refl;
@@ -110,16 +110,16 @@ module _ (room : Room) (r : Reached) (s : Section) where
         held = λ h. omega arith;
         few = omega arith;
         way =
-            gone_further (fits_below SubmessageStart s.number e) (fits-open SubmessageStart s.number e)
+            gone_further (fits_below SubmessageStart s.number e) (fits_open SubmessageStart s.number e)
             (completes_only r.order s.number goes).0 refl;
       }
-  going goes line says.Closes e = absurd (apart (λ z. cc) (closes-only SubmessageStart s.number e).0)
+  going goes line says.Closes e = absurd (apart (λ z. cc) (closes_only SubmessageStart s.number e).0)
   going goes line says.Misplaced e = spoken goes line
   going goes line says.NoGrid e = spoken goes line
 
-  pub if-passed : P (judgement room r s)
+  pub if_passed : P (judgement room r s)
   unfolding judgement
-  if-passed =
+  if_passed =
       by_test P (completes r.order s.number)
       (λ e. by_test P (leb room.lines r.lines) (λ f. silent) λ f.
       going e (leb-false room.lines r.lines f) (judged SubmessageStart s.number) refl)
@@ -127,7 +127,7 @@ module _ (room : Room) (r : Reached) (s : Section) where
 
   pub passing : {lines : List Line} {closed : ℕ} {reached : Reached} → judgement room r s ≡ passes lines closed reached
       → Passing room r s lines closed reached
-  passing e = subst P e if-passed
+  passing e = subst P e if_passed
 
   pub halting : {lines : List Line} {why : Refusal} → judgement room r s ≡ stops lines why → Halting room r lines
-  halting e = subst P e if-passed
+  halting e = subst P e if_passed

@@ -30,7 +30,7 @@ use Rattle.walk_laws.specs.ExactlyWhen.{
 use Rattle.walk_laws.specs.Rows.{FirstRow}
 use Rattle.walk_laws.specs.Laws.{PlaceIsCount, offset_at, InputOverAtLast}
 use Rattle.walk_laws.proofs.OneRead.{refused_there, section_there, none_read}
-use Rattle.walk_laws.proofs.OneSection.{stopped-there}
+use Rattle.walk_laws.proofs.OneSection.{stopped_there}
 use Rattle.walk_laws.proofs.WalksTo.{WalksTo, from_start, step_on, comes_walks_to}
 use Rattle.walk_laws.proofs.WholeWalk.{on, after, on_next, walked_on, walk_refused_exactly_when}
 use Rattle.walk_laws.proofs.Passing.{passing}
@@ -86,18 +86,18 @@ module _ (room : Room) (file : List ℕ) (short : NotTooLong file) where
       (ap (λ (t : Told). t.sections) (on_next room file at rest r) ∙ ap (λ (x : Read). (after room file r x).sections) e ∙ none)
       ∙ append-nil b.done
 
-  all-counted : {at rest : ℕ} {r : Reached} (c : WalksTo room file at rest r) (x : Read) → read_at file at rest ≡ x
+  all_counted : {at rest : ℕ} {r : Reached} (c : WalksTo room file at rest r) (x : Read) → read_at file at rest ≡ x
       → (after room file r x).sections ≡ [] → r.sections ≡ length (walked room file).sections
-  all-counted c x e none = sym (ap length (all_told c x e none) ∙ (before c).count)
+  all_counted c x e none = sym (ap length (all_told c x e none) ∙ (before c).count)
 
   -- so it is where a section that was read is refused
-  pub refused-told : {b : Stand} {s : Section} {rest' n d : ℕ} (c : Comes room file b) → WellRead file b.at b.rest s rest'
+  pub refused_told : {b : Stand} {s : Section} {rest' n d : ℕ} (c : Comes room file b) → WellRead file b.at b.rest s rest'
       → FirstRow (rows_after_read room b s.number) n d → (walked room file).sections ≡ (before (comes_walks_to c).reaches).done
-  refused-told {b} {s} {rest'} {n} {d} c well first =
+  refused_told {b} {s} {rest'} {n} {d} c well first =
       let at = comes_walks_to c in
       let r = at.reached in
       let k =
-      stopped-there room r s n d
+      stopped_there room r s n d
       (subst (λ (b : Stand). FirstRow (rows_after_read room b s.number) n d) (sym at.stood) first) in
       let cursor : Cursor = record { at = record { 0 = s.offset.0 + s.length }; rest = rest' } in
       all_told at.reaches (read.Section s cursor) (section_there file b.at b.rest s rest' well)
@@ -109,12 +109,12 @@ place_of room file _ _ _ _ (too_long long) one ten = absurd (one refl)
 place_of room file n _ o d (unread {b} short c u) one ten =
     let k = refused_there file b.at b.rest n o d u in
     let at = comes_walks_to c in
-    sym (ap (λ (b : Stand). b.sections) at.stood) ∙ all-counted room file short at.reaches (refused_at k.fault o) k.refuses refl
+    sym (ap (λ (b : Stand). b.sections) at.stood) ∙ all_counted room file short at.reaches (refused_at k.fault o) k.refuses refl
 place_of room file _ _ _ _ (input_over short c none other last) one ten = absurd (ten refl)
 place_of room file n _ _ d (misjudged short c well first) one ten =
     let at = comes_walks_to c in
     sym (ap (λ (b : Stand). b.sections) at.stood)
-    ∙ sym (ap length (refused-told room file short c well first) ∙ (before room file short at.reaches).count)
+    ∙ sym (ap length (refused_told room file short c well first) ∙ (before room file short at.reaches).count)
 
 pub place_is_count : PlaceIsCount
 place_is_count room file n p o d zeroth one ten e =
@@ -134,7 +134,7 @@ last_of room file _ _ _ _ (input_over {b} {last} short c none other count) ten =
     let place = l.0 in
     let all = all_told room file short at.reaches read.Over e refl in
     let here : r.last.place.0 ≡ last = omega arith in (
-      sym count ∙ sym sections ∙ all-counted room file short at.reaches read.Over e refl,
+      sym count ∙ sym sections ∙ all_counted room file short at.reaches read.Over e refl,
       sym
           (ap (λ (t : List Section). offset_at t last) all
           ∙ ap (λ (k : ℕ). offset_at told.done k) (sym here)

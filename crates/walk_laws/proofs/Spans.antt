@@ -59,9 +59,9 @@ module _ (file : List ℕ) where
           (λ i above below (low, zeroth). none (suc i) (omega arith) (omega arith) (omega arith, zeroth))
 
   -- and where it is the first
-  first-starts : {g rest : ℕ} (more : List Section) → HasGrib file g → 16 + rest ≡ total file g → LaidOut file (g + 16) rest more
+  first_starts : {g rest : ℕ} (more : List Section) → HasGrib file g → 16 + rest ≡ total file g → LaidOut file (g + 16) rest more
       → Starts (section_of 0 g 16 ∷ more) 0
-  first-starts {g} more grib stated later = record { grib = grib; zeroth = refl; ends = ends }
+  first_starts {g} more grib stated later = record { grib = grib; zeroth = refl; ends = ends }
     where
       ends : (k : ℕ) → 0 < k → ToldAt (section_of 0 g 16 ∷ more) 8 k
           → ((i : ℕ) → 0 < i → i < k → Not (ToldAt (section_of 0 g 16 ∷ more) 0 i))
@@ -75,7 +75,7 @@ module _ (file : List ℕ) where
   -- so it does wherever a section 0 is told
   starts_there : {at rest : ℕ} (l : List Section) → LaidOut file at rest l → (z : ℕ) → ToldAt l 0 z → Starts l z
   starts_there _ nothing_more z (inside, number) = absurd (omega arith)
-  starts_there _ (indicator_next first stated later) zero there = first-starts _ first.1 stated later
+  starts_there _ (indicator_next first stated later) zero there = first_starts _ first.1 stated later
   starts_there _ (end_next sevens later) zero (inside, number) = absurd (omega arith)
   starts_there _ (headed_next some other (low, high) within taken later) zero (inside, number) = absurd (omega arith)
   starts_there _ (indicator_next first stated later) (suc z) (inside, number) =
@@ -110,8 +110,8 @@ module _ (file : List ℕ) (told : List Section) (laid : LaidOut file 0 0 told) 
       }
 
   -- a line that is closed is closed by the section 8 right behind its section 7
-  right-behind : (p : Place) → line.end ≡ ClosedAt p → ToldAt told 8 (line.values.0 + 1) × (p.0 ≡ line.values.0 + 1)
-  right-behind p e = go (eqb (told_at told (line.values.0 + 1)).number 8) refl
+  right_behind : (p : Place) → line.end ≡ ClosedAt p → ToldAt told 8 (line.values.0 + 1) × (p.0 ≡ line.values.0 + 1)
+  right_behind p e = go (eqb (told_at told (line.values.0 + 1)).number 8) refl
     where
       go : (t : Bool) → eqb (told_at told (line.values.0 + 1)).number 8 ≡ t
           → ToldAt told 8 (line.values.0 + 1) × (p.0 ≡ line.values.0 + 1)
@@ -131,7 +131,7 @@ module _ (file : List ℕ) (told : List Section) (laid : LaidOut file 0 0 told) 
   -- and so that one ends the message
   ends_it : EndsItsMessage told line
   ends_it p e =
-      let (there, behind) = right-behind p e in
+      let (there, behind) = right_behind p e in
       let before = pins.indicator.high in
       rw (behind, pins.total, pins.offset) (there, starts.ends (line.values.0 + 1) (omega arith) there alone)
 

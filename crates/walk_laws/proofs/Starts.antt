@@ -7,7 +7,7 @@ use mathlib.Core.List.{List, [], ◌∷◌}
 use mathlib.Core.Logic.{inl, inr}
 use Rattle.octets.specs.Words.{Not}
 use Rattle.framing.specs.declared.read.Section.{Section}
-use Rattle.framing.proofs.OneRead.{reads_as, starts-with-0, ends-with-8}
+use Rattle.framing.proofs.OneRead.{reads_as, starts_with_0, ends_with_8}
 use Rattle.framing.proofs.Tests.{never_both}
 use Rattle.order.specs.Order.{is_between}
 use Rattle.order.specs.declared.Order.{Order}
@@ -37,7 +37,7 @@ use Rattle.walk_laws.proofs.WholeWalk.{walk_refused_exactly_when}
 use Rattle.walk_laws.proofs.OneStep.{one_step_exactly_when}
 use Rattle.walk_laws.proofs.Passing.{Way, within, gone_further, shut, passing}
 use Rattle.walk_laws.proofs.Counts.{to_9}
-use Rattle.walk_laws.proofs.Places.{before, refused-told}
+use Rattle.walk_laws.proofs.Places.{before, refused_told}
 
 -- between messages nothing of a message is to come
 pub settled : {room : Room} {file : List ℕ} {at rest : ℕ} {r : Reached} → WalksTo room file at rest r → is_between r.order ≡ true → rest ≡ 0
@@ -47,14 +47,14 @@ settled {room} {file} (step_on {at} {rest} {r = r} {reached = reached} {s = s} {
     by_way : {lines : List Line} {closed : ℕ} → Way r s lines closed reached → cursor.rest ≡ 0
     by_way (within below inside) = absurd (never_both between inside)
     by_way (gone_further below inside after_7 line) = absurd (never_both between inside)
-    by_way (shut is-8 closed after_7 line) = ends-with-8 (reads_as file at rest e) is-8
+    by_way (shut is-8 closed after_7 line) = ends_with_8 (reads_as file at rest e) is-8
 
 pub messages_start_with_0 : MessagesStartWith0
 unfolding is_between
 messages_start_with_0 room file b s rest' c between well =
     let at = comes_walks_to c in
     let order : at.reached.order ≡ BetweenMessages = ap (λ (b : Stand). b.order) at.stood ∙ between in
-    starts-with-0 (reads_as file b.at b.rest (section_there file b.at b.rest s rest' well)) (settled at.reaches (rw order))
+    starts_with_0 (reads_as file b.at b.rest (section_there file b.at b.rest s rest' well)) (settled at.reaches (rw order))
 
 -- inside a message a section was told last, and it is no section 8
 inside : {room : Room} {file : List ℕ} {at rest : ℕ} {r : Reached} → WalksTo room file at rest r → Not (r.order ≡ BetweenMessages)
@@ -85,17 +85,17 @@ given_inside room file n _ _ d (misjudged {b} {s} {rest'} short c well row) is-1
     let r = at.reached in
     let told = before room file short at.reaches in
     let sections : r.sections ≡ b.sections = ap (λ (b : Stand). b.sections) at.stood in
-    let last = inside at.reaches open-there in
+    let last = inside at.reaches open_there in
     let there = told.last last.0 in
     let place : b.sections - 1 ≡ r.last.place.0 = omega (arith, there.0) in
     let number : number_at (walked room file).sections (b.sections - 1) ≡ r.last.section.number =
-    ap (λ (t : List Section). number_at t (b.sections - 1)) (refused-told room file short c well row)
+    ap (λ (t : List Section). number_at t (b.sections - 1)) (refused_told room file short c well row)
     ∙ ap (λ (k : ℕ). number_at told.done k) place
     ∙ ap (λ (s : Section). s.number) there.1 in
     (omega (arith, last.0), λ is-8. last.1 (sym number ∙ is-8))
   where
-    open-there : Not ((comes_walks_to c).reached.order ≡ BetweenMessages)
-    open-there e =
+    open_there : Not ((comes_walks_to c).reached.order ≡ BetweenMessages)
+    open_there e =
         let between : b.order ≡ BetweenMessages = sym (ap (λ (b : Stand). b.order) (comes_walks_to c).stood) ∙ e in
         misfit room b s.number n d row is-11
         (subst (λ (order : Order). CanCome order s.number) (sym between) (messages_start_with_0 room file b s rest' c between well))

@@ -19,7 +19,7 @@ use Rattle.order.specs.Order.{judged, completes}
 use Rattle.order.specs.declared.Order.TheVariants.{SubmessageStart}
 use Rattle.order.specs.declared.Judged.{Judged}
 use Rattle.order.specs.declared.Judged.TheVariants as says
-use Rattle.order.proofs.Laws.{closes-only}
+use Rattle.order.proofs.Laws.{closes_only}
 use Rattle.index.specs.Lines.{place, line_of}
 use Rattle.index.specs.declared.line.MessageEnd.TheVariants.{GoesOn, ClosedAt}
 use Rattle.index.specs.declared.line.Line.{Line}
@@ -102,7 +102,7 @@ module _ (room wide : Room) (r : Reached) (s : Section) (rows : r.sections < wid
   going (says.Fits next) e =
       rw (lt-leb wide.rows r.sections rows) (by_lines room r _ (λ held. let h = held.1 in omega arith) (by_rows room r (line_of r.force GoesOn ∷ []) [] refl same))
   going says.Closes e =
-      let z = (closes-only SubmessageStart s.number e).0 in let never : ◌≡◌ {A = ℕ} 0 1 = cc in absurd (omega arith)
+      let z = (closes_only SubmessageStart s.number e).0 in let never : ◌≡◌ {A = ℕ} 0 1 = cc in absurd (omega arith)
   going says.Misplaced e = by_lines room r _ (λ held. omega arith) same
   going says.NoGrid e = by_lines room r _ (λ held. omega arith) same
 

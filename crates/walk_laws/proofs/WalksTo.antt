@@ -14,7 +14,7 @@ use Rattle.index.specs.Walk.{Reached, at_start, passes, judgement}
 use Rattle.walk_laws.specs.Rows.{NoRow}
 use Rattle.walk_laws.specs.ExactlyWhen.{Stand, rows_after_read, lines_behind, WellRead, Comes, started, goes_further}
 use Rattle.walk_laws.proofs.OneRead.{Tells, reads, tells, section_there}
-use Rattle.walk_laws.proofs.OneSection.{stand_of, Arrives, Judges, goes, judges, passed-there}
+use Rattle.walk_laws.proofs.OneSection.{stand_of, Arrives, Judges, goes, judges, passed_there}
 
 -- it comes to a read at `at` with `rest` octets to come and with `r` reached
 pub data WalksTo (room : Room) (file : List ℕ) : ℕ → ℕ → Reached → Type 0 where
@@ -79,7 +79,7 @@ comes_walks_to {file = file} started = record { reached = at_start file; reaches
 comes_walks_to {room} {file} (goes_further {b} {s} {rest'} before well none) =
     let at = comes_walks_to before in
     let r = at.reached in
-    let gone = passed-there room r s (subst (λ (b : Stand). NoRow (rows_after_read room b s.number)) (sym at.stood) none) in
+    let gone = passed_there room r s (subst (λ (b : Stand). NoRow (rows_after_read room b s.number)) (sym at.stood) none) in
     let arrives = gone.arrives in
     let stood = at.stood in
     record {

@@ -45,7 +45,7 @@ use Rattle.walk_laws.specs.ExactlyWhen.{
   WalkCleanExactlyWhen,
 }
 use Rattle.walk_laws.proofs.OneRead.{Tells, refuses, reads, over, tells, refused_there, section_there, none_read}
-use Rattle.walk_laws.proofs.OneSection.{Judges, halts, goes as passes_on, judges, stopped-there}
+use Rattle.walk_laws.proofs.OneSection.{Judges, halts, goes as passes_on, judges, stopped_there}
 use Rattle.walk_laws.proofs.WalksTo.{WalksTo, from_start, step_on, walks_to_comes, comes_walks_to, last_there, read_so}
 
 -- the walk from a place and a rest on
@@ -92,9 +92,9 @@ module _ (room : Room) (file : List ℕ) (short : length file ≤ 1099511627776)
   Ends outcome.Clean = EndsClean room file
   Ends (outcome.Refused why p o) = Given room file (refusal_number why) p.0 o.0 (refusal_detail why)
 
-  over-ends : (at rest : ℕ) (r : Reached) → WalksTo room file at rest r → NoneInHand file at rest → Ends (concluded r list.over)
+  over_ends : (at rest : ℕ) (r : Reached) → WalksTo room file at rest r → NoneInHand file at rest → Ends (concluded r list.over)
   unfolding concluded refusal_number refusal_detail
-  over-ends at rest r c none = go (is_between r.order) (said r.order)
+  over_ends at rest r c none = go (is_between r.order) (said r.order)
     where
       go : (t : Bool) → Said r.order t
           → Ends (pick t outcome.Clean (outcome.Refused refusal.InputOver r.last.place r.last.section.offset))
@@ -126,7 +126,7 @@ module _ (room : Room) (file : List ℕ) (short : length file ≤ 1099511627776)
           let forward = goes (reads_as file at rest e) in
           judged s cursor e (λ reached c'. later cursor.at.0 cursor.rest reached (omega arith) c') (judgement room r s) refl
           (judges room r s)
-      go _ e (over none) later = over-ends at rest r c none
+      go _ e (over none) later = over_ends at rest r c none
 
   pub walk_ends : Ends (walked room file).outcome
   walk_ends =
@@ -204,7 +204,7 @@ walk_refused_exactly_when room file n p o d some = (there (ltb 1099511627776 (le
         let at = comes_walks_to c in
         let r = at.reached in
         let k =
-        stopped-there room r s n d
+        stopped_there room r s n d
         (subst (λ (b : Stand). FirstRow (rows_after_read room b s.number) n d) (sym at.stood) row) in
         let cursor : Cursor = record { at = record { 0 = s.offset.0 + s.length }; rest = rest' } in
         ap end_of

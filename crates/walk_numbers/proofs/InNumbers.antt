@@ -92,7 +92,7 @@ module _ (file rows₀ lines₀ : List ℕ) where
       → EndsAt at end rows lines → answer ≡ ended_at at end → Met answer rows lines
   unfolding walk_numbers
   finished at e f =
-      let told = sym e ∙ tables.is-told 15 line_numbers fifteen file rows₀ lines₀ (length lines₀ / 15) (in_room (length lines₀)) in (
+      let told = sym e ∙ tables.is_told 15 line_numbers fifteen file rows₀ lines₀ (length lines₀ / 15) (in_room (length lines₀)) in (
         f ∙ ap (λ (x : Out 15 line_numbers fifteen). seven_in x) told,
         (
           ap (λ (x : Out 15 line_numbers fifteen). x.rows) told,
@@ -109,22 +109,22 @@ module _ (file rows₀ lines₀ : List ℕ) where
 
   -- the laws of `Lent`, for the tables as they were stored
   module _ {at : Standing} {span : Span} {local : LocalUsePlace} {places : List Place} {rows lines : List ℕ} where
-    pub passing-on : {s : Section} {next : Reading} {at' : Standing} {lines' : List ℕ}
+    pub passing_on : {s : Section} {next : Reading} {at' : Standing} {lines' : List ℕ}
         → KeptAt at span local places rows lines → seen file at.reading ≡ Passes s next
         → completes at.reading.order s.number ≡ false → at' ≡ at → lines' ≡ lines
         → Passing at' span local places rows lines' s next
-    passing-on kept e c same untouched = rw (same, untouched) (record { kept = kept; sees = e; alone = c })
+    passing_on kept e c same untouched = rw (same, untouched) (record { kept = kept; sees = e; alone = c })
 
     -- .. or once the line of the submessage that it completes is told
-    pub passing-behind : {s : Section} {next : Reading} {at' : Standing} {lines' : List ℕ}
+    pub passing_behind : {s : Section} {next : Reading} {at' : Standing} {lines' : List ℕ}
         → KeptAt at span local places rows lines → seen file at.reading ≡ Passes s next
         → completes at.reading.order s.number ≡ true → at.lines < length lines₀ / 15
         → at' ≡ told_line at → lines' ≡ put_at (at.lines * 15) (line_numbers (open_line at span local places)) lines
         → Passing at' span local places rows lines' s next
-    passing-behind {s} kept e c free same put =
+    passing_behind {s} kept e c free same put =
         rw (same, put)
         (record {
-          kept = tables.gone-on 15 line_numbers fifteen file rows₀ lines₀ (length lines₀ / 15) (in_room (length lines₀)) kept e c free;
+          kept = tables.gone_on_lem 15 line_numbers fifteen file rows₀ lines₀ (length lines₀ / 15) (in_room (length lines₀)) kept e c free;
           sees = seen_again file at.reading.cursor at.reading.order e c;
           alone = none s.number;
         })
@@ -159,8 +159,8 @@ module _ (file rows₀ lines₀ : List ℕ) where
         rw (answered, put, kept.same_lines)
         (by_test_2 Answered (completes at.reading.order s.number)
         (λ c. by_test_2 Answered (leb (length lines₀ / 15) at.lines)
-        (λ full. finished at (tables.no-line-misplaced 15 line_numbers fifteen file rows₀ lines₀ (length lines₀ / 15) (in_room (length lines₀)) kept e c (leb-true _ _ full)) refl)
-        λ left. finished (told_line at) (tables.misplaced-line 15 line_numbers fifteen file rows₀ lines₀ (length lines₀ / 15) (in_room (length lines₀)) kept e c (leb-false _ _ left)) refl)
+        (λ full. finished at (tables.no_line_misplaced 15 line_numbers fifteen file rows₀ lines₀ (length lines₀ / 15) (in_room (length lines₀)) kept e c (leb-true _ _ full)) refl)
+        λ left. finished (told_line at) (tables.misplaced_line 15 line_numbers fifteen file rows₀ lines₀ (length lines₀ / 15) (in_room (length lines₀)) kept e c (leb-false _ _ left)) refl)
         λ c. finished at (tables.misplaced 15 line_numbers fifteen file rows₀ lines₀ (length lines₀ / 15) (in_room (length lines₀)) kept e c) refl)
       where
         Answered : WalkAnswer → List ℕ → Type 0

@@ -8,7 +8,7 @@ use Rattle.lists.specs.Line.{line_taken}
 use Rattle.lists.proofs.Places.{answers}
 use Rattle.lists.proofs.Lines.{told_full, told_not_taken, told_behind, some_left}
 use Rattle.lists.proofs.Laws.{shorter}
-use Rattle.lists.proofs.Turns.{Going, start, same-room, one_more, ends}
+use Rattle.lists.proofs.Turns.{Going, start, same_room, one_more, ends}
 use Rattle.lists.proofs.read_list.Statement.{statement}
 use Rattle.lists.proofs.read_list.Tie as tie
 
@@ -76,19 +76,19 @@ read_list_spec =
     (λ c. search rules)
     (λ c. search rules)
     (λ c. omega (arith, c.before.before.before.before.loop.invariant.within))
-    (λ c. same-room c.before.before.before.before.loop.invariant)
+    (λ c. same_room c.before.before.before.before.loop.invariant)
     returns
-    (λ c. same-room c.before.before.before.before.before.before.loop.invariant)
+    (λ c. same_room c.before.before.before.before.before.before.loop.invariant)
     returns-2
     (λ c. omega (arith, c.before.if1.false))
     (λ c κs.
     omega (
       arith,
       c.before.if1.false,
-      same-room c.before.before.before.before.before.before.before.loop.invariant,
+      same_room c.before.before.before.before.before.before.before.loop.invariant,
     ))
     (λ c. omega (arith, c.before.before.before.before.if1.false))
     loop-less
     loop-again
-    (λ c. same-room c.before.loop.invariant)
+    (λ c. same_room c.before.loop.invariant)
     returns-3)

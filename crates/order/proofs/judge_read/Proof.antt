@@ -59,7 +59,7 @@ judge_read_spec =
     (λ c κs. search rules)
     -- the returns
     (λ c. c.only.ensures ∙ rw c.before.enum_told.given.1)
-    (λ c. c.after-identification.ensures ∙ rw c.before.enum-told2.given.1)
+    (λ c. c.after_identification_lem.ensures ∙ rw c.before.enum-told2.given.1)
     (λ c. c.only2.ensures ∙ rw c.before.enum-told3.given.1)
     (λ c. c.only3.ensures ∙ rw c.before.enum-told4.given.1)
     (λ c. c.only4.ensures ∙ rw c.before.enum-told5.given.1)

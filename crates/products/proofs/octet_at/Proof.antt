@@ -11,7 +11,7 @@ returns-2 c =
     let from = c.before.before in
     let index = from.before.before in
     at_index NoOctet octet_of index.before.before.before.args.payload.now _ _ _ _ _ index.index.given.1 from.from.ensures
-    c.before.from2.ensures c.octet-of.ensures
+    c.before.from2.ensures c.octet_of_lem.ensures
 
 pub octet_at_spec : {M : Type 1} → statement M
 octet_at_spec =

@@ -20,10 +20,10 @@ module _ (s : List ℕ) (width one : TimeOctets) (is : width ≡ one) where
   unfolding time_of
   too_short short = rw (is, lt-ltb (length s) (1 + octets_in one) short)
 
-  long-enough : (time : ℕ) → 1 + octets_in one ≤ length s → time ≡ be_at s 1 (octets_in one)
+  long_enough : (time : ℕ) → 1 + octets_in one ≤ length s → time ≡ be_at s 1 (octets_in one)
       → Time (record { unit = get_or s 0 0; time = time }) ≡ time_of width s
   unfolding time_of
-  long-enough time long e = rw (is, le-ltb (length s) (1 + octets_in one) long, e)
+  long_enough time long e = rw (is, le-ltb (length s) (1 + octets_in one) long, e)
 
 returns : tie.Need-returns
 unfolding octets_in
@@ -37,13 +37,13 @@ returns-3 : tie.Need-returns-3
 unfolding octets_in be_at
 returns-3 c =
     let long = c.before.before.before.before in
-    long-enough _ _ Two long.before.enum_told.given.1 _ long.if1.false c.be16.ensures
+    long_enough _ _ Two long.before.enum_told.given.1 _ long.if1.false c.be16.ensures
 
 returns-4 : tie.Need-returns-4
 unfolding octets_in be_at
 returns-4 c =
     let long = c.before.before.before.before.before.before in
-    long-enough _ _ Four long.before.enum-told2.given.1 _ long.if2.false c.be32.ensures
+    long_enough _ _ Four long.before.enum-told2.given.1 _ long.if2.false c.be32.ensures
 
 pub time_of_spec : {M : Type 1} → statement M
 time_of_spec =

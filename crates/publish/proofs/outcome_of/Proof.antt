@@ -9,7 +9,7 @@ use Rattle.index.specs.Lines.{place}
 use Rattle.index.specs.Bounds.{unlimited}
 use Rattle.index.specs.Walk.{walked}
 use Rattle.reading.proofs.Untabled as steps
-use Rattle.publish.proofs.Turns.{Counting, sees, counting, first-counting}
+use Rattle.publish.proofs.Turns.{Counting, sees, counting, first_counting}
 use Rattle.publish.proofs.outcome_of.Statement.{statement}
 use Rattle.publish.proofs.outcome_of.Tie as tie
 
@@ -20,7 +20,7 @@ abbrev decreases-loop : tie.decreases-loop
 decreases-loop file reading₀ place₀ last₀ reading place last = length file - reading.cursor.at.0
 
 loop-holds : tie.Need-loop-init invariant-loop decreases-loop
-loop-holds c = let begin = c.before.before.before in rw (c.before.start.ensures, c.unlisted.ensures) (first-counting begin.args.file.now begin.requires)
+loop-holds c = let begin = c.before.before.before in rw (c.before.start.ensures, c.unlisted.ensures) (first_counting begin.args.file.now begin.requires)
 
 add-place : tie.Need-overflow-add-place invariant-loop decreases-loop
 add-place c =
@@ -103,7 +103,7 @@ returns-4 c =
     let begin = asked.before.before.before.before.before in
     let kept = asked.before.loop.invariant in
     c.refused3.ensures
-    ∙ sym (sym kept.way.comes ∙ (steps.input-over begin.args.file.now begin.requires _ _ kept.way.bounded
+    ∙ sym (sym kept.way.comes ∙ (steps.input_over_lem begin.args.file.now begin.requires _ _ kept.way.bounded
     (sees kept.way (sym asked.look.ensures ∙ told.enum-told2.given.1))).outcome ∙ rw kept.passed)
 
 returns-5 : tie.Need-returns-5 invariant-loop decreases-loop

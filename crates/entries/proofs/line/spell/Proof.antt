@@ -3,7 +3,7 @@ use Prim.Native.Nat.{◌≤◌}
 use native.Mathlib.Omega.{arith}
 use borrow.Author.Rules.{rules}
 use Rattle.entries.proofs.Put.{number_field_room}
-use Rattle.entries.proofs.InTurn.{put-in-turn}
+use Rattle.entries.proofs.InTurn.{put_in_turn}
 use Rattle.entries.proofs.line.spell.Statement.{statement}
 use Rattle.entries.proofs.line.spell.Tie as tie
 use Rattle.entries.proofs.line.spell.Reads as reads
@@ -52,7 +52,7 @@ returns c =
     let number = category.before.before.before in
     let time = number.before.before.before in
     let surface = time.before.before.before in
-    put-in-turn _ surface.put-octet-field.ensures.1 time.put-time-fields.ensures.1 number.put-octet-field2.ensures.1
+    put_in_turn _ surface.put-octet-field.ensures.1 time.put-time-fields.ensures.1 number.put-octet-field2.ensures.1
     category.put-octet-field3.ensures.1 discipline.put-number-field.ensures.1 offset.put-number-field2.ensures.1
     submessage.put-number-field3.ensures.1 message.put-number.ensures.1
 

@@ -8,10 +8,10 @@ use Rattle.inventory.specs.Turn.{due_by}
 use Rattle.inventory.proofs.Turns.{
   Listing,
   first,
-  by-seen,
-  count-below,
-  few-before,
-  room-before,
+  by_seen_lem,
+  count_below,
+  few_before,
+  room_before,
   nearer,
   due_told,
   no_line,
@@ -55,8 +55,8 @@ add-place c =
     let fits = begin.requires.1 in
     let so_far = loop.loop.invariant in
     let seen =
-    by-seen file text fits so_far _ (sym asked.look.ensures ∙ told.seen.given.1) in
-    let low = count-below file text fits so_far seen in
+    by_seen_lem file text fits so_far _ (sym asked.look.ensures ∙ told.seen.given.1) in
+    let low = count_below file text fits so_far seen in
     omega arith
 
 -- it completes a submessage
@@ -71,8 +71,8 @@ remembered-requires c κs =
     let fits = begin.requires.1 in
     let so_far = loop.loop.invariant in
     let seen =
-    by-seen file text fits so_far _ (sym asked.look.ensures ∙ told.seen.given.1) in
-    few-before file text fits so_far seen
+    by_seen_lem file text fits so_far _ (sym asked.look.ensures ∙ told.seen.given.1) in
+    few_before file text fits so_far seen
 
 put-memory-requires : tie.Need-put-memory-requires invariant-loop decreases-loop
 put-memory-requires c κs =
@@ -85,9 +85,9 @@ put-memory-requires c κs =
     let fits = begin.requires.1 in
     let so_far = loop.loop.invariant in
     let seen =
-    by-seen file text fits so_far _ (sym asked.look.ensures ∙ told.seen.given.1) in (
+    by_seen_lem file text fits so_far _ (sym asked.look.ensures ∙ told.seen.given.1) in (
       begin.requires.0,
-      room-before file text fits so_far seen,
+      room_before file text fits so_far seen,
     )
 
 loop-less : tie.Need-loop-smaller invariant-loop decreases-loop
@@ -101,7 +101,7 @@ loop-less c =
     let fits = begin.requires.1 in
     let so_far = loop.loop.invariant in
     let seen =
-    by-seen file text fits so_far _ (sym asked.look.ensures ∙ told.seen.given.1) in
+    by_seen_lem file text fits so_far _ (sym asked.look.ensures ∙ told.seen.given.1) in
     nearer file text fits so_far seen
 
 loop-again : tie.Need-loop-preserved invariant-loop decreases-loop
@@ -119,7 +119,7 @@ loop-again c =
     let fits = begin.requires.1 in
     let so_far = loop.loop.invariant in
     let seen =
-    by-seen file text fits so_far _ (sym asked.look.ensures ∙ told.seen.given.1) in
+    by_seen_lem file text fits so_far _ (sym asked.look.ensures ∙ told.seen.given.1) in
     rw after.remembered.ensures
     (turn file text fits so_far
     (due_told (ap due_by (sym chosen.if1.true ∙ asks.completing.ensures)) seen)
@@ -137,7 +137,7 @@ loop-less-2 c =
     let fits = begin.requires.1 in
     let so_far = loop.loop.invariant in
     let seen =
-    by-seen file text fits so_far _ (sym asked.look.ensures ∙ told.seen.given.1) in
+    by_seen_lem file text fits so_far _ (sym asked.look.ensures ∙ told.seen.given.1) in
     nearer file text fits so_far seen
 
 loop-again-2 : tie.Need-loop-preserved-2 invariant-loop decreases-loop
@@ -153,7 +153,7 @@ loop-again-2 c =
     let fits = begin.requires.1 in
     let so_far = loop.loop.invariant in
     let seen =
-    by-seen file text fits so_far _ (sym asked.look.ensures ∙ told.seen.given.1) in
+    by_seen_lem file text fits so_far _ (sym asked.look.ensures ∙ told.seen.given.1) in
     remembering (remembers_0 loop.loop.memory _ c.if2.true)
     (turn file text fits so_far
     (due_told (ap due_by (sym chosen.if1.false ∙ asks.completing.ensures)) seen)
@@ -170,7 +170,7 @@ loop-less-3 c =
     let fits = begin.requires.1 in
     let so_far = loop.loop.invariant in
     let seen =
-    by-seen file text fits so_far _ (sym asked.look.ensures ∙ told.seen.given.1) in
+    by_seen_lem file text fits so_far _ (sym asked.look.ensures ∙ told.seen.given.1) in
     nearer file text fits so_far seen
 
 loop-again-3 : tie.Need-loop-preserved-3 invariant-loop decreases-loop
@@ -186,7 +186,7 @@ loop-again-3 c =
     let fits = begin.requires.1 in
     let so_far = loop.loop.invariant in
     let seen =
-    by-seen file text fits so_far _ (sym asked.look.ensures ∙ told.seen.given.1) in
+    by_seen_lem file text fits so_far _ (sym asked.look.ensures ∙ told.seen.given.1) in
     remembering (remembers_4 loop.loop.memory _ c.before.before.if2.false c.if3.true)
     (turn file text fits so_far
     (due_told (ap due_by (sym chosen.if1.false ∙ asks.completing.ensures)) seen)
@@ -203,7 +203,7 @@ loop-less-4 c =
     let fits = begin.requires.1 in
     let so_far = loop.loop.invariant in
     let seen =
-    by-seen file text fits so_far _ (sym asked.look.ensures ∙ told.seen.given.1) in
+    by_seen_lem file text fits so_far _ (sym asked.look.ensures ∙ told.seen.given.1) in
     nearer file text fits so_far seen
 
 loop-again-4 : tie.Need-loop-preserved-4 invariant-loop decreases-loop
@@ -219,7 +219,7 @@ loop-again-4 c =
     let fits = begin.requires.1 in
     let so_far = loop.loop.invariant in
     let seen =
-    by-seen file text fits so_far _ (sym asked.look.ensures ∙ told.seen.given.1) in
+    by_seen_lem file text fits so_far _ (sym asked.look.ensures ∙ told.seen.given.1) in
     remembering (remembers_none loop.loop.memory _ c.before.before.if2.false c.if3.false)
     (turn file text fits so_far
     (due_told (ap due_by (sym chosen.if1.false ∙ asks.completing.ensures)) seen)
@@ -237,9 +237,9 @@ put-memory-requires-2 c κs =
     let fits = begin.requires.1 in
     let so_far = loop.loop.invariant in
     let seen =
-    by-seen file text fits so_far _ (sym asked.look.ensures ∙ told.seen2.given.1) in (
+    by_seen_lem file text fits so_far _ (sym asked.look.ensures ∙ told.seen2.given.1) in (
       begin.requires.0,
-      room-before file text fits so_far seen,
+      room_before file text fits so_far seen,
     )
 
 remembered-requires-2 : tie.Need-remembered-requires-2 invariant-loop decreases-loop
@@ -253,8 +253,8 @@ remembered-requires-2 c κs =
     let fits = begin.requires.1 in
     let so_far = loop.loop.invariant in
     let seen =
-    by-seen file text fits so_far _ (sym asked.look.ensures ∙ told.seen2.given.1) in
-    few-before file text fits so_far seen
+    by_seen_lem file text fits so_far _ (sym asked.look.ensures ∙ told.seen2.given.1) in
+    few_before file text fits so_far seen
 
 add-place-2 : tie.Need-overflow-add-place-2 invariant-loop decreases-loop
 add-place-2 c =
@@ -267,8 +267,8 @@ add-place-2 c =
     let fits = begin.requires.1 in
     let so_far = loop.loop.invariant in
     let seen =
-    by-seen file text fits so_far _ (sym asked.look.ensures ∙ told.seen2.given.1) in
-    let low = count-below file text fits so_far seen in
+    by_seen_lem file text fits so_far _ (sym asked.look.ensures ∙ told.seen2.given.1) in
+    let low = count_below file text fits so_far seen in
     omega arith
 
 loop-less-5 : tie.Need-loop-smaller-5 invariant-loop decreases-loop
@@ -282,7 +282,7 @@ loop-less-5 c =
     let fits = begin.requires.1 in
     let so_far = loop.loop.invariant in
     let seen =
-    by-seen file text fits so_far _ (sym asked.look.ensures ∙ told.seen2.given.1) in
+    by_seen_lem file text fits so_far _ (sym asked.look.ensures ∙ told.seen2.given.1) in
     nearer file text fits so_far seen
 
 loop-again-5 : tie.Need-loop-preserved-5 invariant-loop decreases-loop
@@ -297,7 +297,7 @@ loop-again-5 c =
     let fits = begin.requires.1 in
     let so_far = loop.loop.invariant in
     let seen =
-    by-seen file text fits so_far _ (sym asked.look.ensures ∙ told.seen2.given.1) in
+    by_seen_lem file text fits so_far _ (sym asked.look.ensures ∙ told.seen2.given.1) in
     rw c.remembered2.ensures
     (turn file text fits so_far seen
     (a_line file loop.loop.memory put.put-memory2.ensures).1)

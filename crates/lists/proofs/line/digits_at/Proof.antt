@@ -11,11 +11,11 @@ use Rattle.lists.proofs.Places.{
   said_yes,
   digit_low,
   digit_high,
-  digits-behind,
-  digits-closed,
-  digits-not-closed,
-  digits-too-many,
-  digits-further,
+  digits_behind,
+  digits_closed,
+  digits_not_closed,
+  digits_too_many,
+  digits_further,
 }
 use Rattle.lists.proofs.line.digits_at.Statement.{statement}
 use Rattle.lists.proofs.line.digits_at.Tie as tie
@@ -33,7 +33,7 @@ unfolding number_taken
 returns c =
     let asked = c.before.before in
     let turn = asked.before.before in
-    sym (digits-closed _ _ _ _ _ turn.loop-test.true
+    sym (digits_closed _ _ _ _ _ turn.loop-test.true
     (said_no asked.is_digit.ensures c.before.if1.true) c.if2.true)
     ∙ turn.before.loop.invariant.1
 
@@ -42,7 +42,7 @@ unfolding number_taken
 returns-2 c =
     let asked = c.before.before in
     let turn = asked.before.before in
-    sym (digits-not-closed _ _ _ _ _ turn.loop-test.true
+    sym (digits_not_closed _ _ _ _ _ turn.loop-test.true
     (said_no asked.is_digit.ensures c.before.if1.true) c.if2.false)
     ∙ turn.before.loop.invariant.1
 
@@ -51,7 +51,7 @@ unfolding number_taken
 returns-3 c =
     let asked = c.before.before in
     let turn = asked.before.before in
-    sym (digits-too-many _ _ _ _ _ turn.loop-test.true
+    sym (digits_too_many _ _ _ _ _ turn.loop-test.true
     (said_yes asked.is_digit.ensures c.before.if1.false) c.if3.true)
     ∙ turn.before.loop.invariant.1
 
@@ -61,7 +61,7 @@ loop-again c =
     let turn = asked.before.before in
     let start = turn.before.before.before in (
       omega (arith, start.requires.0),
-      sym (digits-further _ _ _ _ _ turn.loop-test.true
+      sym (digits_further _ _ _ _ _ turn.loop-test.true
           (said_yes asked.is_digit.ensures c.before.if1.false) c.if3.false)
           ∙ turn.before.loop.invariant.1,
     )
@@ -69,7 +69,7 @@ loop-again c =
 returns-4 : tie.Need-returns-4 invariant-loop decreases-loop
 unfolding number_taken
 returns-4 c =
-    sym (digits-behind _ _ _ _ _ c.loop-test.false) ∙ c.before.loop.invariant.1
+    sym (digits_behind _ _ _ _ _ c.loop-test.false) ∙ c.before.loop.invariant.1
 
 pub digits_at_spec : {M : Type 1} → statement M
 digits_at_spec =

@@ -7,11 +7,11 @@ use Rattle.lists.proofs.Places.{
   said_no,
   said_yes,
   inside_of,
-  none-not-1,
-  none-not-2,
-  none-not-3,
-  none-not-4,
-  none-closed,
+  none_not_1,
+  none_not_2,
+  none_not_3,
+  none_not_4,
+  none_closed,
 }
 use Rattle.lists.proofs.line.none_next.Statement.{statement}
 use Rattle.lists.proofs.line.none_next.Tie as tie
@@ -19,15 +19,15 @@ use Rattle.lists.proofs.line.none_next.Tie as tie
 returns : tie.Need-returns
 returns c =
     let a = c.before.before.before.args in
-    sym (none-not-1 a.close a.text.now a.at
-    (said_no c.before.next-is.ensures c.if1.true))
+    sym (none_not_1 a.close a.text.now a.at
+    (said_no c.before.next_is_lem.ensures c.if1.true))
 
 returns-2 : tie.Need-returns-2
 returns-2 c =
     let first = c.before.before in
     let a = first.before.before.before.args in
-    sym (none-not-2 a.close a.text.now a.at
-    (said_yes first.before.next-is.ensures first.if1.false)
+    sym (none_not_2 a.close a.text.now a.at
+    (said_yes first.before.next_is_lem.ensures first.if1.false)
     (said_no c.before.next-is2.ensures c.if2.true))
 
 returns-3 : tie.Need-returns-3
@@ -35,8 +35,8 @@ returns-3 c =
     let second = c.before.before in
     let first = second.before.before in
     let a = first.before.before.before.args in
-    sym (none-not-3 a.close a.text.now a.at
-    (said_yes first.before.next-is.ensures first.if1.false)
+    sym (none_not_3 a.close a.text.now a.at
+    (said_yes first.before.next_is_lem.ensures first.if1.false)
     (said_yes second.before.next-is2.ensures second.if2.false)
     (said_no c.before.next-is3.ensures c.if3.true))
 
@@ -46,8 +46,8 @@ returns-4 c =
     let second = third.before.before in
     let first = second.before.before in
     let a = first.before.before.before.args in
-    sym (none-not-4 a.close a.text.now a.at
-    (said_yes first.before.next-is.ensures first.if1.false)
+    sym (none_not_4 a.close a.text.now a.at
+    (said_yes first.before.next_is_lem.ensures first.if1.false)
     (said_yes second.before.next-is2.ensures second.if2.false)
     (said_yes third.before.next-is3.ensures third.if3.false)
     (said_no c.before.next-is4.ensures c.if4.true))
@@ -60,8 +60,8 @@ returns-5 c =
     let first = second.before.before in
     let a = first.before.before.before.args in
     c.next-is5.ensures
-    ∙ sym (none-closed a.close a.text.now a.at
-    (said_yes first.before.next-is.ensures first.if1.false)
+    ∙ sym (none_closed a.close a.text.now a.at
+    (said_yes first.before.next_is_lem.ensures first.if1.false)
     (said_yes second.before.next-is2.ensures second.if2.false)
     (said_yes third.before.next-is3.ensures third.if3.false)
     (said_yes fourth.before.next-is4.ensures fourth.if4.false))
@@ -77,7 +77,7 @@ none_next_spec =
     omega (
       arith,
       inside_of 110 a.text.now a.at
-          (said_yes c.before.next-is.ensures c.if1.false),
+          (said_yes c.before.next_is_lem.ensures c.if1.false),
     ))
     (λ c κs. search rules)
     returns-2

@@ -9,9 +9,9 @@ use Rattle.lists.proofs.Places.{
   digit_low,
   digit_high,
   number_behind,
-  number-zero,
-  number-zero-goes-on,
-  number-no-digit,
+  number_zero,
+  number_zero_goes_on,
+  number_no_digit,
   number_digits,
 }
 use Rattle.lists.proofs.line.number_at.Statement.{statement}
@@ -26,23 +26,23 @@ unfolding number_taken
 returns-2 c =
     let asked = c.before in
     let first = asked.before in
-    sym (number-zero _ _ _ _ first.before.before.if1.false first.if2.true
-    (sym asked.next-is.ensures ∙ c.if3.true))
+    sym (number_zero _ _ _ _ first.before.before.if1.false first.if2.true
+    (sym asked.next_is_lem.ensures ∙ c.if3.true))
 
 returns-3 : tie.Need-returns-3
 unfolding number_taken
 returns-3 c =
     let asked = c.before in
     let first = asked.before in
-    sym (number-zero-goes-on _ _ _ _ first.before.before.if1.false first.if2.true
-    (sym asked.next-is.ensures ∙ c.if3.false))
+    sym (number_zero_goes_on _ _ _ _ first.before.before.if1.false first.if2.true
+    (sym asked.next_is_lem.ensures ∙ c.if3.false))
 
 returns-4 : tie.Need-returns-4
 unfolding number_taken
 returns-4 c =
     let asked = c.before in
     let first = asked.before in
-    sym (number-no-digit _ _ _ _ first.before.before.if1.false first.if2.false
+    sym (number_no_digit _ _ _ _ first.before.before.if1.false first.if2.false
     (said_no asked.is_digit.ensures c.if4.true))
 
 returns-5 : tie.Need-returns-5

@@ -4,7 +4,7 @@ use mathlib.Core.Path.{sym, ◌∙◌}
 use lib.Seq.{drop-drop}
 use borrow.Author.Rules.{rules}
 use Rattle.lists.specs.Line.{number_taken, octet_taken, take_octet}
-use Rattle.lists.proofs.Places.{answers, none-room}
+use Rattle.lists.proofs.Places.{answers, none_room}
 use Rattle.lists.proofs.Numbers.{number_most}
 use Rattle.lists.proofs.line.octet_at.Statement.{statement}
 use Rattle.lists.proofs.line.octet_at.Tie as tie
@@ -53,7 +53,7 @@ octet_at_spec =
     let a = c.before.before.before.args in
     omega (
       arith,
-      none-room a.close a.text.now a.at
+      none_room a.close a.text.now a.at
           (sym c.before.none-next.ensures ∙ c.if1.true),
     ))
     returns

@@ -10,30 +10,30 @@ use borrow.Author.Rules.{rules}
 use Rattle.products.specs.declared.MaybeTime.TheVariants.{NoTime}
 use Rattle.entries.specs.Entries.{colon}
 use Rattle.lists.specs.Line.{taken, not_taken, none_next, take_time, number_taken, time_taken}
-use Rattle.lists.proofs.Places.{answers, none-room}
+use Rattle.lists.proofs.Places.{answers, none_room}
 use Rattle.lists.proofs.Numbers.{number_most}
 use Rattle.lists.proofs.line.time_at.Statement.{statement}
 use Rattle.lists.proofs.line.time_at.Tie as tie
 
 -- where the unit is none, the time is too, or it is not in form
 module _ (text : List ℕ) (at : ℕ) (none : none_next colon (drop at text) ≡ true) where
-  both-none : none_next colon (drop (at + 5) text) ≡ true
+  both_none : none_next colon (drop (at + 5) text) ≡ true
       → take_time (drop at text) ≡ taken NoTime (drop (at + 10) text)
   unfolding take_time
-  both-none both =
+  both_none both =
       rw (none, ap (none_next colon) (drop-drop 5 at text) ∙ both)
       (ap (taken NoTime) (drop-drop 10 at text))
 
-  unit-none : none_next colon (drop (at + 5) text) ≡ false → take_time (drop at text) ≡ not_taken
+  unit_none : none_next colon (drop (at + 5) text) ≡ false → take_time (drop at text) ≡ not_taken
   unfolding take_time
-  unit-none one = rw (none, ap (none_next colon) (drop-drop 5 at text) ∙ one)
+  unit_none one = rw (none, ap (none_next colon) (drop-drop 5 at text) ∙ one)
 
 returns : tie.Need-returns
 unfolding time_taken
 returns c =
     let first = c.before.before in
     let a = first.before.before.before.args in
-    sym (both-none a.text.now a.at (sym first.before.none-next.ensures ∙ first.if1.true)
+    sym (both_none a.text.now a.at (sym first.before.none-next.ensures ∙ first.if1.true)
     (sym c.before.none-next2.ensures ∙ c.if2.true))
 
 returns-2 : tie.Need-returns-2
@@ -41,7 +41,7 @@ unfolding time_taken
 returns-2 c =
     let first = c.before.before in
     let a = first.before.before.before.args in
-    sym (unit-none a.text.now a.at (sym first.before.none-next.ensures ∙ first.if1.true)
+    sym (unit_none a.text.now a.at (sym first.before.none-next.ensures ∙ first.if1.true)
     (sym c.before.none-next2.ensures ∙ c.if2.false))
 
 returns-3 : tie.Need-returns-3
@@ -110,7 +110,7 @@ time_at_spec =
     let a = c.before.before.before.args in
     omega (
       arith,
-      none-room 58 a.text.now a.at
+      none_room 58 a.text.now a.at
           (sym c.before.none-next.ensures ∙ c.if1.true),
     ))
     (λ c κs. search rules)
@@ -118,7 +118,7 @@ time_at_spec =
     let a = c.before.before.before.before.before.args in
     omega (
       arith,
-      none-room 58 a.text.now (a.at + 5)
+      none_room 58 a.text.now (a.at + 5)
           (sym c.before.none-next2.ensures ∙ c.if2.true),
     ))
     returns

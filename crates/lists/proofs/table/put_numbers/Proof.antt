@@ -7,7 +7,7 @@ use mathlib.Core.List.{List, [], ◌∷◌, ◌++◌}
 use lib.ListN.{length, take, get_or, set}
 use lib.Seq.{length-take-le, take-suc, take_all}
 use borrow.Author.Rules.{rules}
-use Rattle.standing.proofs.Put.{put-none, put_more, put_one, put_length}
+use Rattle.standing.proofs.Put.{put_none, put_more, put_one, put_length}
 use Rattle.standing.specs.Put.{put_at}
 use Rattle.lists.proofs.table.put_numbers.Statement.{statement}
 use Rattle.lists.proofs.table.put_numbers.Tie as tie
@@ -55,7 +55,7 @@ put_numbers_spec =
     (tie.spec
     invariant-loop
     decreases-loop
-    (λ c. let a = c.args in record { within = omega arith; same = sym (put-none a.at a.table.now) })
+    (λ c. let a = c.args in record { within = omega arith; same = sym (put_none a.at a.table.now) })
     (λ c. search rules)
     (λ c. search rules)
     (λ c. search rules)

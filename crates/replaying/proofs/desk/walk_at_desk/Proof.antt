@@ -68,7 +68,7 @@ use Rattle.replaying.specs.contracts.desk.walk_at_desk as f
 use Rattle.replaying.proofs.desk.walk_at_desk.Statement as stated
 use Rattle.replaying.proofs.desk.walk_at_desk.Code as code
 use Rattle.replaying.proofs.desk.walk_at_desk.Proof.Table.{before, before_val, before_are, front, behind, front_room, unset_val, lines_val}
-use Rattle.replaying.proofs.desk.walk_at_desk.Proof.Table.{UnsetIs, LinesAre, unset-typed, lines-typed, desk_of, desk_is, desk-typed}
+use Rattle.replaying.proofs.desk.walk_at_desk.Proof.Table.{UnsetIs, LinesAre, unset_typed, lines_typed, desk_of, desk_is, desk_typed}
 use Rattle.replaying.proofs.desk.walk_at_desk.Proof.Table.{repeats, Front, Behind, parts, again}
 use Rattle.replaying.proofs.desk.walk_at_desk.Proof.CallLent as L
 use Rattle.replaying.proofs.desk.walk_at_desk.Proof.CallUnset as U
@@ -202,10 +202,10 @@ module _ {M : Type 1} {𝓤 : Ura M} (𝓛 : Logic 𝓤) (mem : Memory → SProp
         calls_from ! fm (raw (C #unset-line [] After₂)) [] After₂ (id⊢ 𝓤 _) (no_more !) (λ u.
         use1 𝓛 (later (given ((u ≡ unset_val) × UnsetIs) (‵ ftrue))) (id⊢ 𝓤 _) $ await ! tt $ learn ! (λ one. drop ! $
         land ! (from ! (stop !))
-        (init ! 14 refl (subst (λ (t : Val). Holds (has_ty T'.mir t) × WT t) (sym one.0) (unset-typed 𝓛 one.1))) $
+        (init ! 14 refl (subst (λ (t : Val). Holds (has_ty T'.mir t) × WT t) (sym one.0) (unset_typed 𝓛 one.1))) $
         rewrite ! 14 (λ (t : Val). ‵ (fat full_share T'.mir l₅ 0 t)) one.0 refl $
         assigns ! (repeats ! (load ! (from ! (stop !)) (look ! 14 refl)))
-        (from ! (stop !)) (init ! 12 refl (lines-typed 𝓛 before before_val (before_are one.1))) $
+        (from ! (stop !)) (init ! 12 refl (lines_typed 𝓛 before before_val (before_are one.1))) $
         -- the rows go to `walk`
         assigns ! (addr ! (from ! (fld ! refl (hop ! (look_in ! 20 (sub ! 0 refl (whole !))) (stop !)))))
         (from ! (stop !)) (init ! 8 refl (tt, tt)) $
@@ -244,12 +244,12 @@ module _ {M : Type 1} {𝓤 : Ura M} (𝓛 : Logic 𝓤) (mem : Memory → SProp
         -- dies; _5; …; …; _0; …]
         land ! (from ! (stop !)) (init ! 15 refl ((LL.lawful N.the_type N'.the_laws 𝓛).typed meant.answer _ got.0).0) $
         assigns ! (of_opd ! (load ! (from ! (stop !)) (look ! 0 refl)))
-        (from ! (stop !)) (init ! 5 refl (lines-typed 𝓛 lines (lines_val lines) are)) $
+        (from ! (stop !)) (init ! 5 refl (lines_typed 𝓛 lines (lines_val lines) are)) $
         let is = desk_is meant.answer w lines (lines_val lines) got.0 are in
         assigns !
         (agg ! (and_then ! (load ! (from ! (stop !)) (look ! 15 refl))
         (and_then ! (load ! (from ! (stop !)) (look ! 5 refl)) (no_more !))))
-        (from ! (stop !)) (init ! 28 refl (desk-typed 𝓛 desk _ is)) $
+        (from ! (stop !)) (init ! 28 refl (desk_typed 𝓛 desk _ is)) $
         returns ! (look ! 28 refl) $ forget ! 0 refl $ forget ! 5 refl $ forget ! 7 refl $ forget ! 9 refl $ forget ! 11 refl $
         forget ! 13 refl $ forget ! 15 refl $ forget ! 18 refl $ forget ! 20 refl $ forget ! 22 refl $ forget ! 24 refl $
         forget ! 26 refl $ forget ! 28 refl $

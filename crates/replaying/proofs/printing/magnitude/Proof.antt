@@ -43,8 +43,8 @@ module _ (n : ℤ) (fits : SFits w32 n) where
   size_back : (z : ℤ) → z ≡ pos (nat_abs n) → to_z w64 (of_z w64 z) ≡ pos (nat_abs n)
   size_back z e = rw e (to_z-of_z size_fits)
 
-  size-cast : (z : ℤ) → z ≡ pos (nat_abs n) → T (non_neg z) × Fits w64 (nat_abs z)
-  size-cast z e = rw e (tt, Fits-nat_abs tt fits)
+  size_cast : (z : ℤ) → z ≡ pos (nat_abs n) → T (non_neg z) × Fits w64 (nat_abs z)
+  size_cast z e = rw e (tt, Fits-nat_abs tt fits)
 
 cast-wide : tie.Need-overflow-cast-wide
 cast-wide c = rw (to_z-of_z c.ranges.number) (sfits_widen tt c.ranges.number)
@@ -59,13 +59,13 @@ cast-result : tie.Need-overflow-cast-result
 cast-result c =
     let n = c.before.args.number in
     let fits = c.before.ranges.number in
-    size-cast n fits _ (size_back n fits _ (taken n fits c.if1.true))
+    size_cast n fits _ (size_back n fits _ (taken n fits c.if1.true))
 
 cast-result-2 : tie.Need-overflow-cast-result-2
 cast-result-2 c =
     let n = c.before.args.number in
     let fits = c.before.ranges.number in
-    size-cast n fits _ (left n fits c.if1.false)
+    size_cast n fits _ (left n fits c.if1.false)
 
 returns : tie.Need-returns
 returns c =

@@ -3,7 +3,7 @@
 use mathlib.Core.Path.{refl}
 use native.Mathlib.Omega.{arith}
 use borrow.Author.Rules.{rules}
-use Rattle.requests.proofs.EachKind.{into-cut, into-room-over, into-whole}
+use Rattle.requests.proofs.EachKind.{into_cut, into_room_over, into_whole}
 use Rattle.requests.proofs.kinds.file_into_at.Statement.{statement}
 use Rattle.requests.proofs.kinds.file_into_at.Tie as tie
 
@@ -11,7 +11,7 @@ sub-if1 : tie.Need-overflow-sub-if1
 sub-if1 c = search rules
 
 returns : tie.Need-returns
-returns c = λ kind. into-cut kind _ _ _ _ refl refl (omega arith)
+returns c = λ kind. into_cut kind _ _ _ _ refl refl (omega arith)
 
 add-from : tie.Need-overflow-add-from
 add-from c = search rules
@@ -37,12 +37,12 @@ sub-if2 c = search rules
 returns-2 : tie.Need-returns-2
 returns-2 c = λ kind.
     let f = c.before in
-    into-cut kind _ _ _ _ f.before.four-octets.ensures f.four-octets2.ensures (omega arith)
+    into_cut kind _ _ _ _ f.before.four-octets.ensures f.four-octets2.ensures (omega arith)
 
 returns-3 : tie.Need-returns-3
 returns-3 c = λ kind.
     let f = c.before.before in
-    into-room-over kind _ _ _ _ f.before.four-octets.ensures f.four-octets2.ensures (omega arith) (omega arith)
+    into_room_over kind _ _ _ _ f.before.four-octets.ensures f.four-octets2.ensures (omega arith) (omega arith)
 
 add-t6 : tie.Need-overflow-add-t6
 add-t6 c = search rules
@@ -50,7 +50,7 @@ add-t6 c = search rules
 returns-4 : tie.Need-returns-4
 returns-4 c = λ kind.
     let f = c.before.before in
-    into-whole kind _ _ _ _ f.before.four-octets.ensures f.four-octets2.ensures (omega arith) (omega arith)
+    into_whole kind _ _ _ _ f.before.four-octets.ensures f.four-octets2.ensures (omega arith) (omega arith)
 
 pub file_into_at_spec : {M : Type 1} → statement M
 file_into_at_spec =

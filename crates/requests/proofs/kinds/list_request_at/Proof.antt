@@ -3,7 +3,7 @@
 use mathlib.Core.Path.{refl}
 use native.Mathlib.Omega.{arith}
 use borrow.Author.Rules.{rules}
-use Rattle.requests.proofs.EachKind.{list-cut, list-room-over, list-whole}
+use Rattle.requests.proofs.EachKind.{list_cut, list_room_over, list_whole}
 use Rattle.requests.proofs.kinds.list_request_at.Statement.{statement}
 use Rattle.requests.proofs.kinds.list_request_at.Tie as tie
 
@@ -11,7 +11,7 @@ sub-if1 : tie.Need-overflow-sub-if1
 sub-if1 c = search rules
 
 returns : tie.Need-returns
-returns c = list-cut _ _ _ _ refl refl (omega arith)
+returns c = list_cut _ _ _ _ refl refl (omega arith)
 
 add-from : tie.Need-overflow-add-from
 add-from c = search rules
@@ -37,12 +37,12 @@ sub-if2 c = search rules
 returns-2 : tie.Need-returns-2
 returns-2 c =
     let f = c.before in
-    list-cut _ _ _ _ f.before.two-octets.ensures f.four-octets.ensures (omega arith)
+    list_cut _ _ _ _ f.before.two-octets.ensures f.four-octets.ensures (omega arith)
 
 returns-3 : tie.Need-returns-3
 returns-3 c =
     let f = c.before.before in
-    list-room-over _ _ _ _ f.before.two-octets.ensures f.four-octets.ensures (omega arith) (omega arith)
+    list_room_over _ _ _ _ f.before.two-octets.ensures f.four-octets.ensures (omega arith) (omega arith)
 
 add-t6 : tie.Need-overflow-add-t6
 add-t6 c = search rules
@@ -50,7 +50,7 @@ add-t6 c = search rules
 returns-4 : tie.Need-returns-4
 returns-4 c =
     let f = c.before.before in
-    list-whole _ _ _ _ f.before.two-octets.ensures f.four-octets.ensures (omega arith) (omega arith)
+    list_whole _ _ _ _ f.before.two-octets.ensures f.four-octets.ensures (omega arith) (omega arith)
 
 pub list_request_at_spec : {M : Type 1} → statement M
 list_request_at_spec =

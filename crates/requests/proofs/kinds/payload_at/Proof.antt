@@ -3,7 +3,7 @@
 use mathlib.Core.Path.{refl}
 use native.Mathlib.Omega.{arith}
 use borrow.Author.Rules.{rules}
-use Rattle.requests.proofs.EachKind.{payload_cut, payload-whole}
+use Rattle.requests.proofs.EachKind.{payload_cut, payload_whole}
 use Rattle.requests.proofs.kinds.payload_at.Statement.{statement}
 use Rattle.requests.proofs.kinds.payload_at.Tie as tie
 
@@ -41,7 +41,7 @@ add-t5 : tie.Need-overflow-add-t5
 add-t5 c = search rules
 
 returns-3 : tie.Need-returns-3
-returns-3 c = λ kind. payload-whole kind _ _ _ c.before.before.four-octets.ensures (omega arith)
+returns-3 c = λ kind. payload_whole kind _ _ _ c.before.before.four-octets.ensures (omega arith)
 
 pub payload_at_spec : {M : Type 1} → statement M
 payload_at_spec =

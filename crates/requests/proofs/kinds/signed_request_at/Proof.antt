@@ -3,7 +3,7 @@
 use Prim.Native.Nat.{◌+◌}
 use native.Mathlib.Omega.{arith}
 use borrow.Author.Rules.{rules}
-use Rattle.requests.proofs.EachKind.{signed_cut, signed-whole}
+use Rattle.requests.proofs.EachKind.{signed_cut, signed_whole}
 use Rattle.requests.proofs.kinds.signed_request_at.Statement.{statement}
 use Rattle.requests.proofs.kinds.signed_request_at.Tie as tie
 
@@ -35,7 +35,7 @@ add-t6 : tie.Need-overflow-add-t6
 add-t6 c = search rules
 
 returns-3 : tie.Need-returns-3
-returns-3 c = signed-whole _ _ (omega arith)
+returns-3 c = signed_whole _ _ (omega arith)
 
 pub signed_request_at_spec : {M : Type 1} → statement M
 signed_request_at_spec =

@@ -3,7 +3,7 @@
 use mathlib.Core.Path.{refl}
 use native.Mathlib.Omega.{arith}
 use borrow.Author.Rules.{rules}
-use Rattle.requests.proofs.EachKind.{walk-cut, walk-numbers-over, walk-lines-over, walk-whole}
+use Rattle.requests.proofs.EachKind.{walk_cut, walk_numbers_over, walk_lines_over, walk_whole}
 use Rattle.requests.proofs.kinds.walk_request_at.Statement.{statement}
 use Rattle.requests.proofs.kinds.walk_request_at.Tie as tie
 
@@ -11,7 +11,7 @@ sub-if1 : tie.Need-overflow-sub-if1
 sub-if1 c = search rules
 
 returns : tie.Need-returns
-returns c = walk-cut _ _ _ _ _ refl refl refl (omega arith)
+returns c = walk_cut _ _ _ _ _ refl refl refl (omega arith)
 
 add-from : tie.Need-overflow-add-from
 add-from c = search rules
@@ -43,17 +43,17 @@ sub-if2 c = search rules
 returns-2 : tie.Need-returns-2
 returns-2 c =
     let f = c.before in
-    walk-cut _ _ _ _ _ f.before.before.two-octets.ensures f.before.two-octets2.ensures f.four-octets.ensures (omega arith)
+    walk_cut _ _ _ _ _ f.before.before.two-octets.ensures f.before.two-octets2.ensures f.four-octets.ensures (omega arith)
 
 returns-3 : tie.Need-returns-3
 returns-3 c =
     let f = c.before.before in
-    walk-numbers-over _ _ _ _ _ f.before.before.two-octets.ensures f.before.two-octets2.ensures f.four-octets.ensures (omega arith) (omega arith)
+    walk_numbers_over _ _ _ _ _ f.before.before.two-octets.ensures f.before.two-octets2.ensures f.four-octets.ensures (omega arith) (omega arith)
 
 returns-4 : tie.Need-returns-4
 returns-4 c =
     let f = c.before.before.before in
-    walk-lines-over _ _ _ _ _ f.before.before.two-octets.ensures f.before.two-octets2.ensures f.four-octets.ensures (omega arith) (omega arith) (omega arith)
+    walk_lines_over _ _ _ _ _ f.before.before.two-octets.ensures f.before.two-octets2.ensures f.four-octets.ensures (omega arith) (omega arith) (omega arith)
 
 add-t8 : tie.Need-overflow-add-t8
 add-t8 c = search rules
@@ -61,7 +61,7 @@ add-t8 c = search rules
 returns-5 : tie.Need-returns-5
 returns-5 c =
     let f = c.before.before.before in
-    walk-whole _ _ _ _ _ f.before.before.two-octets.ensures f.before.two-octets2.ensures f.four-octets.ensures (omega arith) (omega arith) (omega arith)
+    walk_whole _ _ _ _ _ f.before.before.two-octets.ensures f.before.two-octets2.ensures f.four-octets.ensures (omega arith) (omega arith) (omega arith)
 
 pub walk_request_at_spec : {M : Type 1} → statement M
 walk_request_at_spec =

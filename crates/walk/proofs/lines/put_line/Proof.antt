@@ -48,7 +48,7 @@ use Rattle.index.specs.declared.line.Line.{Line}
 use Rattle.index.specs.contracts.line.Line as T
 use Rattle.index.proofs.line.Line.TheLaws as T'
 use Rattle.walk.specs.Turns.{lines_after}
-use Rattle.walk.proofs.Lists.{same_length, when-due, when-not, when-past}
+use Rattle.walk.proofs.Lists.{same_length, when_due, when_not, when_past}
 use Rattle.walk.proofs.Values.{line_val, LineIs, env_at, type_of}
 use Rattle.walk.specs.contracts.lines.put_line.Key.{name as #key}
 use Rattle.walk.specs.contracts.lines.put_line as f
@@ -80,7 +80,7 @@ offset_fits i n within room = omega arith
 
 module _ {M : Type 1} {𝓤 : Ura M} (𝓛 : Logic 𝓤) (mem : Memory → SProp 𝓤) (run : Routine → Fun 𝓤)
     (κ : Lft) (q : Share) (b o : ℕ) (γ : GName) (lines : List Line) (due : Bool) (slot : ℕ) (line : Line)
-    (slot-fits : slot < 2 ^ 64) (line-is : LineIs line) where
+    (slot_fits : slot < 2 ^ 64) (line_is : LineIs line) where
   -- the borrow at a table
   open 𝓛 use {H}
 
@@ -127,8 +127,8 @@ module _ {M : Type 1} {𝓤 : Ura M} (𝓛 : Logic 𝓤) (mem : Memory → SProp
       says ! refl $ nothing ! $ move ! (3 ∷ 0 ∷ []) $ join ! $ frame ! $
       fjoin ! $ pure_i ! (mut_slice_at T.the_row (x later) (s ∷ [])) (tt, (tt, tt))
       (ap (λ (n : ℕ). slice_val (b, o) n ∷ []) (sym kept), subst (Room T.the_row) (sym kept) room) $ fjoin ! $
-      nothing ! $ owned ! T.the_row (Is T.the_row) (LL.makes T.the_type T'.the_plain 𝓛) line _ line-is $ fjoin ! $
-      owned ! usize (Is usize) (uint_Makes 𝓛 w64) slot _ (refl, slot-fits) $ fjoin ! $
+      nothing ! $ owned ! T.the_row (Is T.the_row) (LL.makes T.the_type T'.the_plain 𝓛) line _ line_is $ fjoin ! $
+      owned ! usize (Is usize) (uint_Makes 𝓛 w64) slot _ (refl, slot_fits) $ fjoin ! $
       owned ! Boolean (Is Boolean) (bool_Makes 𝓛) due _ refl $ fjoin ! $ move ! (1 ∷ 0 ∷ []) $ fjoin ! $
       feq_i ! (List Val) (vunit ∷ []) (vunit ∷ []) refl $ move ! (1 ∷ 0 ∷ []) $ done !
 
@@ -166,8 +166,8 @@ module _ {M : Type 1} {𝓤 : Ura M} (𝓛 : Logic 𝓤) (mem : Memory → SProp
         alloc1 ! (λ l₀. alloc1 ! (λ l₁. alloc1 ! (λ l₂. alloc1 ! (λ l₃. alloc1 ! (λ l₄.
         alloc1 ! (λ l₅. alloc1 ! (λ l₆. alloc1 ! (λ l₇. alloc1 ! (λ l₈. alloc1 ! (λ l₉. alloc0 ! $ params1 ! $
         pass1 ! (init ! 16 refl (tt, (tt, (record { fits = room.0 }, tt)))) $ pass1 ! (init ! 14 refl (tt, tt)) $
-        pass1 ! (init ! 12 refl (tt, record { fits = slot-fits })) $
-        pass1 ! (init ! 10 refl ((LL.lawful T.the_type T'.the_laws 𝓛).typed line _ line-is).0) $ pass0 ! $
+        pass1 ! (init ! 12 refl (tt, record { fits = slot_fits })) $
+        pass1 ! (init ! 10 refl ((LL.lawful T.the_type T'.the_laws 𝓛).typed line _ line_is).0) $ pass0 ! $
         -- [_9; …; _8; …; _7; …; _6; …; _5; …; _4; …; _3; …; _2; …; _1; …; room for _0; …; the token; what the parameters own]
         move ! (21 ∷ []) $ fsplit ! $ fsplit ! $ move ! (1 ∷ []) $ fsplit ! $ move ! (24 ∷ []) $ split ! $ move ! (2 ∷ 3 ∷ 0 ∷ []) $
         keep !
@@ -193,24 +193,24 @@ module _ {M : Type 1} {𝓤 : Ura M} (𝓛 : Logic 𝓤) (mem : Memory → SProp
         elem_out ! T.the_row (Is T.the_row) (shows 𝓛 T.the_row) (LL.vals T.the_type T'.the_laws)
         (LL.tells T.the_type T'.the_laws) full_share lines slot line b o within (λ _.
         -- [the element; what it owns; the others; the open borrow; seen; auth; _9; …; _8; …; …; _1; …; room for _0; …]
-        move ! (1 ∷ []) $ drop ! $ owned ! T.the_row (Is T.the_row) (LL.makes T.the_type T'.the_plain 𝓛) line _ line-is $
+        move ! (1 ∷ []) $ drop ! $ owned ! T.the_row (Is T.the_row) (LL.makes T.the_type T'.the_plain 𝓛) line _ line_is $
         move ! (1 ∷ 0 ∷ []) $
         assigns_last ! (of_opd ! (load ! (from ! (stop !)) (look ! 16 refl))) (from ! (hop ! (look ! 6 refl) (stop !)))
-        (store_raw ! 0 refl ((LL.lawful T.the_type T'.the_laws 𝓛).typed line _ line-is).0) $
+        (store_raw ! 0 refl ((LL.lawful T.the_type T'.the_laws 𝓛).typed line _ line_is).0) $
         exec ! C Λ (En l₀ l₁ l₂ l₃ l₄ l₅ l₆ l₇ l₈ l₉) Mir.t-3 (at_ret (En l₀ l₁ l₂ l₃ l₄ l₅ l₆ l₇ l₈ l₉) Post) $
         elem_put ! T.the_row full_share lines slot line (v ∷ []) b o within $
         closes_slice ! tt T.the_row lines (set lines slot line) (length-set lines slot line) b o $
         forget ! 3 refl $ forget ! 5 refl $ forget ! 7 refl $ forget ! 9 refl $ forget ! 11 refl $
-        ends l₀ l₁ l₂ l₃ l₄ l₅ l₆ l₇ l₈ l₉ (set lines slot line) (sym (when-due due slot line lines (is_true due is-due)))))
+        ends l₀ l₁ l₂ l₃ l₄ l₅ l₆ l₇ l₈ l₉ (set lines slot line) (sym (when_due due slot line lines (is_true due is-due)))))
         (λ past. skips ! $
         exec ! C Λ (En l₀ l₁ l₂ l₃ l₄ l₅ l₆ l₇ l₈ l₉) Mir.t-3 (at_ret (En l₀ l₁ l₂ l₃ l₄ l₅ l₆ l₇ l₈ l₉) Post) $
         forget ! 7 refl $ forget ! 9 refl $ forget ! 11 refl $
         ends l₀ l₁ l₂ l₃ l₄ l₅ l₆ l₇ l₈ l₉ lines
-        (sym (when-past due slot line lines (is_true due is-due) (nltb→le slot (length lines) past)))))
+        (sym (when_past due slot line lines (is_true due is-due) (nltb→le slot (length lines) past)))))
         (λ not-due. skips ! $
         exec ! C Λ (En l₀ l₁ l₂ l₃ l₄ l₅ l₆ l₇ l₈ l₉) Mir.t-3 (at_ret (En l₀ l₁ l₂ l₃ l₄ l₅ l₆ l₇ l₈ l₉) Post) $
         forget ! 11 refl $
-        ends l₀ l₁ l₂ l₃ l₄ l₅ l₆ l₇ l₈ l₉ lines (sym (when-not due slot line lines (is_false due not-due))))))))))))))
+        ends l₀ l₁ l₂ l₃ l₄ l₅ l₆ l₇ l₈ l₉ lines (sym (when_not due slot line lines (is_false due not-due))))))))))))))
 
 module _ {M : Type 1} {𝓤 : Ura M} (𝓛 : Logic 𝓤) (mem : Memory → SProp 𝓤) (run : Routine → Fun 𝓤) where
   open 𝓛 use {H}

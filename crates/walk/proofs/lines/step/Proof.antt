@@ -5,7 +5,7 @@ use native.Mathlib.Omega.{arith}
 use lib.ListN.{length}
 use borrow.Author.Rules.{rules}
 use Rattle.standing.specs.declared.Standing.{Standing}
-use Rattle.standing.proofs.Passed.{in-force-local, in-force-kept, in-force-early}
+use Rattle.standing.proofs.Passed.{in_force_local, in_force_kept, in_force_early}
 use Rattle.walk.proofs.Steps as N
 use Rattle.walk.proofs.Steps.{Stepping}
 use Rattle.walk.proofs.lines.step.Statement.{statement}
@@ -33,8 +33,8 @@ row c =
 abbrev only_of : tie.After-passed-row invariant-loop decreases-loop → tie.After-only invariant-loop decreases-loop
 only_of c = c.before.before.before.before.before.before
 
-kept-number : (c : tie.After-passed-row invariant-loop decreases-loop) → (only_of c).only.given.0.0.number < 8
-kept-number c = N.kept-number (turn-of (only_of c)).loop.inv (row (only_of c))
+kept_number : (c : tie.After-passed-row invariant-loop decreases-loop) → (only_of c).only.given.0.0.number < 8
+kept_number c = N.kept_number (turn-of (only_of c)).loop.inv (row (only_of c))
 
 falls : (c : tie.After-passed-row invariant-loop decreases-loop)
     → let turn = turn-of (only_of c) in
@@ -54,7 +54,7 @@ loop-again c =
     let passed = c.before.before in
     let only = only_of passed in
     N.goes (turn-of only).loop.inv (row only)
-    (in-force-kept (turn-of only).loop.at _ _ _ _ _ _ c.if1.true (kept-number passed)) passed.passed-row.ensures
+    (in_force_kept (turn-of only).loop.at _ _ _ _ _ _ c.if1.true (kept_number passed)) passed.passed-row.ensures
     passed.before.before.before.put-row.ensures
 
 -- .. or it is a section 2 ..
@@ -63,7 +63,7 @@ loop-again-2 c =
     let passed = c.before.before.before.before in
     let only = only_of passed in
     N.goes (turn-of only).loop.inv (row only)
-    (in-force-local (turn-of only).loop.at _ _ _ _ _ _ c.if2.true) passed.passed-row.ensures
+    (in_force_local (turn-of only).loop.at _ _ _ _ _ _ c.if2.true) passed.passed-row.ensures
     passed.before.before.before.put-row.ensures
 
 -- .. or one before it, which may say where its message stands
@@ -74,7 +74,7 @@ loop-again-3 c =
     let passed = early.before.before in
     let only = only_of passed in
     N.goes (turn-of only).loop.inv (row only)
-    (in-force-early (turn-of only).loop.at _ _ _ _ _ _ early.if1.false other.if2.false
+    (in_force_early (turn-of only).loop.at _ _ _ _ _ _ early.if1.false other.if2.false
     ∙ rw c.span-after.ensures refl)
     passed.passed-row.ensures passed.before.before.before.put-row.ensures
 
@@ -85,7 +85,7 @@ made : (c : tie.After-turn invariant-loop decreases-loop)
 made c =
     let told = c.before.before in
     let asked = told.before.before in
-    N.last-is asked.before.before.loop.invariant asked.before.glance.ensures asked.row-only.ensures told.enum_told.given.1
+    N.last_is asked.before.before.loop.invariant asked.before.glance.ensures asked.row-only.ensures told.enum_told.given.1
     c.before.resumed.ensures c.turn.ensures
 
 same_length : tie.Need-same-length invariant-loop decreases-loop
@@ -110,15 +110,15 @@ step_spec =
     (λ c. search rules)
     (λ c κs. search rules)
     (λ c κs. search rules)
-    (λ c. omega (arith, kept-number c.before.before))
-    (λ c. kept-number c.before.before)
+    (λ c. omega (arith, kept_number c.before.before))
+    (λ c. kept_number c.before.before)
     (λ c. falls c.before.before)
     loop-again
     (λ c. falls c.before.before.before.before)
     loop-again-2
     (λ c κs. search rules)
-    (λ c. omega (arith, kept-number c.before.before.before.before.before))
-    (λ c. kept-number c.before.before.before.before.before)
+    (λ c. omega (arith, kept_number c.before.before.before.before.before))
+    (λ c. kept_number c.before.before.before.before.before)
     (λ c. falls c.before.before.before.before.before)
     loop-again-3
     (λ c. search rules)

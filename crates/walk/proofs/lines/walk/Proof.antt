@@ -84,7 +84,7 @@ use Rattle.walk.proofs.lines.walk.Proof.CallBegin as B
 use Rattle.walk.proofs.lines.walk.Proof.CallStep as Q
 use Rattle.walk.proofs.lines.walk.Proof.CallPut as P
 use Rattle.walk.proofs.lines.walk.Proof.CallConclude as E
-use Rattle.walk.proofs.lines.walk.Proof.Fields.{ty, going_at, due_at, slot_at, line_at, going-in, due_in, slot-in, line-in}
+use Rattle.walk.proofs.lines.walk.Proof.Fields.{ty, going_at, due_at, slot_at, line_at, going_in, due_in, slot_in, line_in_lem}
 
 -- of the parameters, the two tables are given back
 abbrev stayed : Stays (f.ended).signature.params (f.ended).kept
@@ -253,7 +253,7 @@ module _ {M : Type 1} {𝓤 : Ura M} (𝓛 : Logic 𝓤) (mem : Memory → SProp
         leaves : Turn t
         unfolding after_turn
         leaves =
-            assigns ! (of_opd ! (load ! (from ! (fld ! going_at (stop !))) (going-in ! 14 w refl)))
+            assigns ! (of_opd ! (load ! (from ! (fld ! going_at (stop !))) (going_in ! 14 w refl)))
             (from ! (stop !)) (init ! 12 refl (tt, tt)) $
             rewrite ! 12 (λ (g : Bool). ‵ (fat full_share ty_bool l₆ 0 (vbool g))) ended refl $
             leaves_loop ! (load ! (from ! (stop !)) (look ! 12 refl)) $ exec ! C Λ En Mir.t-4 (at_ret En Post) $
@@ -285,11 +285,11 @@ module _ {M : Type 1} {𝓤 : Ura M} (𝓛 : Logic 𝓤) (mem : Memory → SProp
         room_fits = subst (λ (k : ℕ). k < 2 ^ 64) (sym t.len₂) room₂.0
 
         -- the line that may be due, and where it goes
-        slot-fits : TallyIs w' → w'.slot < 2 ^ 64
-        slot-fits is = (LL.owed S.the_type S'.the_laws w' _ is).1.1.1.1.1.1.1.0.1
+        slot_fits : TallyIs w' → w'.slot < 2 ^ 64
+        slot_fits is = (LL.owed S.the_type S'.the_laws w' _ is).1.1.1.1.1.1.1.0.1
 
-        line-is : TallyIs w' → LineIs w'.line
-        line-is is = (LL.owed S.the_type S'.the_laws w' _ is).1.1.1.1.1.1.1.1.0
+        line_is : TallyIs w' → LineIs w'.line
+        line_is is = (LL.owed S.the_type S'.the_laws w' _ is).1.1.1.1.1.1.1.1.0
 
         abbrev passed₁ : List Val
         passed₁ = v₀ ∷ v₁ ∷ vint w64 (length t.lines) ∷ tally_val t.tally ∷ []
@@ -305,10 +305,10 @@ module _ {M : Type 1} {𝓤 : Ura M} (𝓛 : Logic 𝓤) (mem : Memory → SProp
         abbrev After₂ : TallyIs w' → Val → SProp 𝓤
         After₂ is =
             P.After 𝓛 mem run (named 2) κ₂ q₂ b₂ o₂ γ₂ (length lines) room₂ t.lines t.len₂
-            w'.due w'.slot w'.line (slot-fits is) (line-is is)
+            w'.due w'.slot w'.line (slot_fits is) (line_is is)
 
-        lines-kept : length lines' ≡ length t.lines
-        lines-kept = same_length w'.due w'.slot w'.line t.lines
+        lines_kept : length lines' ≡ length t.lines
+        lines_kept = same_length w'.due w'.slot w'.line t.lines
 
         -- where the loop stands after the turn
         abbrev next : TallyIs w' → length rows' ≡ length rows → At
@@ -319,19 +319,19 @@ module _ {M : Type 1} {𝓤 : Ura M} (𝓛 : Logic 𝓤) (mem : Memory → SProp
               lines = lines';
               tally_is = is;
               len₁ = len;
-              len₂ = lines-kept ∙ t.len₂;
+              len₂ = lines_kept ∙ t.len₂;
               held = (stepped file.now rows lines room₁.0 room₂.0 t.lines t.tally t.rows going (t.held.on going)).held;
             }
 
-        fewer-left : left_of file.now w' < left_of file.now t.tally
-        fewer-left =
+        fewer_left : left_of file.now w' < left_of file.now t.tally
+        fewer_left =
             falls file.now t.tally w' going
             (stepped file.now rows lines room₁.0 room₂.0 t.lines t.tally t.rows going (t.held.on going)).less
 
         goes : Turn t
         unfolding after_turn
         goes =
-            assigns ! (of_opd ! (load ! (from ! (fld ! going_at (stop !))) (going-in ! 14 t.tally refl)))
+            assigns ! (of_opd ! (load ! (from ! (fld ! going_at (stop !))) (going_in ! 14 t.tally refl)))
             (from ! (stop !)) (init ! 12 refl (tt, tt)) $
             rewrite ! 12 (λ (g : Bool). ‵ (fat full_share ty_bool l₆ 0 (vbool g))) going refl $
             stays ! (load ! (from ! (stop !)) (look ! 12 refl)) $
@@ -363,17 +363,17 @@ module _ {M : Type 1} {𝓤 : Ura M} (𝓛 : Logic 𝓤) (mem : Memory → SProp
             move ! (1 ∷ []) $
             use1 𝓛 (later (raw (C #put-line passed₂ (After₂ got.1.0))))
             (P.puts 𝓛 mem run (named 2) κ₂ q₂ b₂ o₂ γ₂ (length lines) room₂ t.lines t.len₂ w'.due w'.slot w'.line
-            (slot-fits got.1.0) (line-is got.1.0) C fm known-put) $ await ! tt $
+            (slot_fits got.1.0) (line_is got.1.0) C fm known-put) $ await ! tt $
             calls_from_last ! fm (raw (C #put-line passed₂ (After₂ got.1.0))) passed₂ (After₂ got.1.0) (id⊢ 𝓤 _)
             (and_then ! (load ! (from ! (stop !)) (look ! 2 refl))
             (and_then ! (load ! (from ! (fld ! due_at (stop !))) (due_in ! 14 w' refl))
-            (and_then ! (load ! (from ! (fld ! slot_at (stop !))) (slot-in ! 14 w' refl))
-            (and_then ! (load ! (from ! (fld ! line_at (stop !))) (line-in ! 14 w' refl)) (no_more !))))) (λ u.
+            (and_then ! (load ! (from ! (fld ! slot_at (stop !))) (slot_in ! 14 w' refl))
+            (and_then ! (load ! (from ! (fld ! line_at (stop !))) (line_in_lem ! 14 w' refl)) (no_more !))))) (λ u.
             use1 𝓛 (later (given (u ≡ vunit) (raw (Has₂ lines')))) (id⊢ 𝓤 _) $ await ! tt $ learn ! (λ eu.
             land_last ! (from ! (stop !)) (init ! 6 refl (subst (λ (v : Val). Holds (has_ty ty_unit v) × WT v) (sym eu) (tt, tt))) $
             forget ! 2 refl $ forget ! 4 refl $ forget ! 6 refl $ forget ! 8 refl $ forget ! 10 refl $ forget ! 12 refl $
-            move ! (1 ∷ []) $ rewrite ! 16 (λ (k : ℕ). ‵ (fat full_share (ty 4) l₄ 0 (vint w64 k))) (sym lines-kept) refl $
-            again ! fewer I t (next got.1.0 got.1.1) fewer-left))))
+            move ! (1 ∷ []) $ rewrite ! 16 (λ (k : ℕ). ‵ (fat full_share (ty 4) l₄ 0 (vint w64 k))) (sym lines_kept) refl $
+            again ! fewer I t (next got.1.0 got.1.1) fewer_left))))
 
       turn : (t : At) → Turn t
       turn t = cases t.tally.going (goes t) (leaves t)

@@ -13,4 +13,4 @@ unstarted_spec =
     (λ c κs. search rules)
     (λ c.
     let listed = c.before in
-    simp (c.line-of.ensures, listed.unlisted.ensures, listed.before.start.ensures, listed.before.before.opened.ensures)))
+    simp (c.line_of_lem.ensures, listed.unlisted.ensures, listed.before.start.ensures, listed.before.before.opened.ensures)))

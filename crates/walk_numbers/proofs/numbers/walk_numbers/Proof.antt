@@ -10,12 +10,12 @@ use Rattle.index.specs.declared.bounds.Room.{Room}
 use Rattle.reading.specs.Reading.{seen}
 use Rattle.reading.specs.declared.Reading.{Reading}
 use Rattle.reading.specs.declared.Seen.TheVariants.{Passes, Closes}
-use Rattle.reading.proofs.Moves.{passes-stands, passes_kept, closes-stands}
+use Rattle.reading.proofs.Moves.{passes_stands, passes_kept, closes_stands}
 use Rattle.walk_numbers.specs.Numbers.{line_numbers}
 use Rattle.walk_numbers.specs.Moves.{unbegun}
 use Rattle.standing.specs.declared.Standing.{Standing}
 use Rattle.standing.proofs.Lent as T
-use Rattle.standing.proofs.Passed.{in-force-local, in-force-kept, in-force-early}
+use Rattle.standing.proofs.Passed.{in_force_local, in_force_kept, in_force_early}
 use Rattle.walk_numbers.proofs.InNumbers as N
 use Rattle.walk_numbers.proofs.InNumbers.{KeptAt, Passing, finished, in_room, fifteen}
 use Rattle.walk_numbers.proofs.numbers.walk_numbers.Statement.{statement}
@@ -68,9 +68,9 @@ passing c =
     let test = c.before.completes.ensures in
     ⊎_elim
     (λ w.
-    N.passing-behind _ _ _ kept (sees c.before) (sym test ∙ w.0.taken) (omega (arith, w.3.left, lines-room turn)) (w.11 ∙ w.9.ensures)
+    N.passing_behind _ _ _ kept (sees c.before) (sym test ∙ w.0.taken) (omega (arith, w.3.left, lines-room turn)) (w.11 ∙ w.9.ensures)
     (w.10 ∙ w.6.ensures ∙ rw w.5.ensures))
-    (λ w. N.passing-on _ _ _ kept (sees c.before) (sym test ∙ w.0.left) w.2 w.1)
+    (λ w. N.passing_on _ _ _ kept (sees c.before) (sym test ∙ w.0.left) w.2 w.1)
     c.if2.branch
 
 -- the section 8 that closes its message
@@ -150,14 +150,14 @@ joined_of c = c.before.before.before.before.before.before.before.before
 abbrev next_of : tie.After-passed-row invariant-loop decreases-loop → Reading
 next_of c = (joined_of c).before.before.before.seen.given.0.1.0
 
-kept-number : (c : tie.After-passed-row invariant-loop decreases-loop) → (joined_of c).before.before.before.seen.given.0.0.number < 8
-kept-number c = let p = passing (joined_of c) in passes_kept _ _ p.kept.settled p.sees
+kept_number : (c : tie.After-passed-row invariant-loop decreases-loop) → (joined_of c).before.before.before.seen.given.0.0.number < 8
+kept_number c = let p = passing (joined_of c) in passes_kept _ _ p.kept.settled p.sees
 
 falls : (c : tie.After-passed-row invariant-loop decreases-loop)
     → let turn = turn-of (joined_of c).before in
     length (file turn) - c.passed-row.result.reading.cursor.at.0 < length (file turn) - turn.loop.at.reading.cursor.at.0
 falls c =
-    let stands = passes-stands _ _ (sees (joined_of c).before) in
+    let stands = passes_stands _ _ (sees (joined_of c).before) in
     omega (arith, stands.inside, stands.forward, stands.later, ap (λ (r : Standing). r.reading.cursor.at.0) c.passed-row.ensures)
 
 free : (c : tie.After-passed-row invariant-loop decreases-loop)
@@ -170,7 +170,7 @@ loop-again c =
     let row = c.before.before in
     let turn = turn-of (joined_of row).before in
     N.passed _ _ _ (passing (joined_of row)) (free row) (rows_fit turn)
-    (in-force-kept (joined_of row).if2.at _ _ _ _ (next_of row).cursor _ c.if5.true (kept-number row))
+    (in_force_kept (joined_of row).if2.at _ _ _ _ (next_of row).cursor _ c.if5.true (kept_number row))
     row.passed-row.ensures row.before.before.before.put-row.ensures
 
 -- .. or it is a section 2 ..
@@ -179,7 +179,7 @@ loop-again-2 c =
     let row = c.before.before.before.before in
     let turn = turn-of (joined_of row).before in
     N.passed _ _ _ (passing (joined_of row)) (free row) (rows_fit turn)
-    (in-force-local (joined_of row).if2.at _ _ _ _ (next_of row).cursor _ c.if6.true)
+    (in_force_local (joined_of row).if2.at _ _ _ _ (next_of row).cursor _ c.if6.true)
     row.passed-row.ensures row.before.before.before.put-row.ensures
 
 -- .. or one before it, which may say where its message stands
@@ -190,7 +190,7 @@ loop-again-3 c =
     let row = early.before.before in
     let turn = turn-of (joined_of row).before in
     N.passed _ _ _ (passing (joined_of row)) (free row) (rows_fit turn)
-    (in-force-early (joined_of row).if2.at _ _ _ _ (next_of row).cursor _ early.if5.false other.if6.false
+    (in_force_early (joined_of row).if2.at _ _ _ _ (next_of row).cursor _ early.if5.false other.if6.false
     ∙ rw c.span-after.ensures refl)
     row.passed-row.ensures row.before.before.before.put-row.ensures
 
@@ -207,7 +207,7 @@ returns-4 c =
     let known = c.before.before.before.before in
     let turn = closing-turn known in
     finished _ _ _ turn.loop.at
-    (T.no-row-closing 15 line_numbers fifteen _ _ _ _ (in_room _) turn.loop.inv (sees-end known) (omega (arith, c.before.if7.true, rows-room turn)))
+    (T.no_row_closing 15 line_numbers fifteen _ _ _ _ (in_room _) turn.loop.inv (sees-end known) (omega (arith, c.before.if7.true, rows-room turn)))
     c.refused3.ensures
 
 same-length-7 : tie.Need-same-length-7 invariant-loop decreases-loop
@@ -223,7 +223,7 @@ returns-5 c =
     let known = c.before.before.before.before.before.before.before in
     let turn = closing-turn known in
     finished _ _ _ turn.loop.at
-    (T.no-line-closing 15 line_numbers fifteen _ _ _ _ (in_room _) turn.loop.inv (sees-end known) (omega (arith, c.before.before.before.before.if7.false, rows-room turn))
+    (T.no_line_closing 15 line_numbers fifteen _ _ _ _ (in_room _) turn.loop.inv (sees-end known) (omega (arith, c.before.before.before.before.if7.false, rows-room turn))
     (omega (arith, c.before.if8.true, lines-room turn)))
     c.refused4.ensures
 
@@ -244,7 +244,7 @@ closed-both-requires c κs =
 loop-less-4 : tie.Need-loop-smaller-4 invariant-loop decreases-loop
 loop-less-4 c =
     let both = c.before in
-    let stands = closes-stands _ _ (sees-end (closing-of both)) in
+    let stands = closes_stands _ _ (sees-end (closing-of both)) in
     omega (arith, stands.inside, stands.forward, stands.later, ap (λ (r : Standing). r.reading.cursor.at.0) both.closed-both.ensures)
 
 loop-again-4 : tie.Need-loop-preserved-4 invariant-loop decreases-loop
@@ -315,7 +315,7 @@ same-length-16 c =
 returns-9 : tie.Need-returns-9 invariant-loop decreases-loop
 returns-9 c =
     let turn = c.before.before.before.before in
-    finished _ _ _ turn.loop.at (T.input-over 15 line_numbers fifteen _ _ _ _ (in_room _) turn.loop.invariant (sym c.before.before.before.glance.ensures ∙ c.before.enum-told2.given.1)) c.input-over.ensures
+    finished _ _ _ turn.loop.at (T.input_over_lem 15 line_numbers fifteen _ _ _ _ (in_room _) turn.loop.invariant (sym c.before.before.before.glance.ensures ∙ c.before.enum-told2.given.1)) c.input_over_lem.ensures
 
 same-length-17 : tie.Need-same-length-17 invariant-loop decreases-loop
 same-length-17 c =
@@ -358,15 +358,15 @@ walk_numbers_spec =
     returns-3
     (λ c κs. search rules)
     (λ c κs. search rules)
-    (λ c. omega (arith, kept-number c.before.before))
-    (λ c. kept-number c.before.before)
+    (λ c. omega (arith, kept_number c.before.before))
+    (λ c. kept_number c.before.before)
     (λ c. falls c.before.before)
     loop-again
     (λ c. falls c.before.before.before.before)
     loop-again-2
     (λ c κs. search rules)
-    (λ c. omega (arith, kept-number c.before.before.before.before.before))
-    (λ c. kept-number c.before.before.before.before.before)
+    (λ c. omega (arith, kept_number c.before.before.before.before.before))
+    (λ c. kept_number c.before.before.before.before.before)
     (λ c. falls c.before.before.before.before.before)
     loop-again-3
     (λ c. search rules)

@@ -152,14 +152,14 @@ Behind room b = cells (mem T.the_row) (behind room) b (at 0 (mem T.the_row).size
 module _ {M : Type 1} {𝓤 : Ura M} (𝓛 : Logic 𝓤) where
   open 𝓛 use {H}
 
-  pub unset-typed : UnsetIs → Holds (has_ty T'.mir unset_val) × WT unset_val
-  unset-typed is = ((LL.lawful T.the_type T'.the_laws 𝓛).typed unset _ is).0
+  pub unset_typed : UnsetIs → Holds (has_ty T'.mir unset_val) × WT unset_val
+  unset_typed is = ((LL.lawful T.the_type T'.the_laws 𝓛).typed unset _ is).0
 
-  pub lines-typed : (xs : List Line) (v : Val) → LinesAre xs v → Holds (has_ty (ty_array T'.mir 512) v) × WT v
-  lines-typed xs v are = ((Array-Lawful 𝓛 T.the_row (LL.lawful T.the_type T'.the_laws 𝓛) 512).typed xs _ are).0
+  pub lines_typed : (xs : List Line) (v : Val) → LinesAre xs v → Holds (has_ty (ty_array T'.mir 512) v) × WT v
+  lines_typed xs v are = ((Array-Lawful 𝓛 T.the_row (LL.lawful T.the_type T'.the_laws 𝓛) 512).typed xs _ are).0
 
-  pub desk-typed : (d : Desk) (v : Val) → Is D.the_row d (v ∷ []) → Holds (has_ty D'.mir v) × WT v
-  desk-typed d v is = ((LL.lawful D.the_type D'.the_laws 𝓛).typed d _ is).0
+  pub desk_typed : (d : Desk) (v : Val) → Is D.the_row d (v ∷ []) → Holds (has_ty D'.mir v) × WT v
+  desk_typed d v is = ((LL.lawful D.the_type D'.the_laws 𝓛).typed d _ is).0
 
   module _ (n b : ℕ) (xs : List Line) where
     abbrev Arr : RattleType

@@ -36,7 +36,7 @@ use Rattle.index.specs.contracts.line.Line as T
 use Rattle.index.proofs.line.Line.TheLaws as T'
 use Rattle.walk.specs.Turns.{lines_after}
 use Rattle.walk.proofs.Values.{line_val, LineIs}
-use Rattle.walk.proofs.lines.walk.Proof.Again.{LentAgain, lends-at, comes-at}
+use Rattle.walk.proofs.lines.walk.Proof.Again.{LentAgain, lends_at, comes_at}
 use Rattle.walk.specs.contracts.lines.put_line as f
 use Rattle.walk.proofs.lines.put_line.Symbol.{name as #put-line}
 
@@ -45,7 +45,7 @@ PutLine 𝓛 mem run = triple_of 𝓛 f.signature (f.spec 𝓛 mem run)
 
 module _ {M : Type 1} {𝓤 : Ura M} (𝓛 : Logic 𝓤) (mem : Memory → SProp 𝓤) (run : Routine → Fun 𝓤)
     (ℓ : Lifetime) (κ : Lft) (q : Share) (b o : ℕ) (γ : GName) (n : ℕ) (room : Room T.the_row n) (lines : List Line)
-    (len : length lines ≡ n) (due : Bool) (slot : ℕ) (line : Line) (slot-fits : slot < 2 ^ 64) (line-is : LineIs line) where
+    (len : length lines ≡ n) (due : Bool) (slot : ℕ) (line : Line) (slot_fits : slot < 2 ^ 64) (line_is : LineIs line) where
   open 𝓛 use {H, A}
 
   abbrev Contr : Contract 𝓤
@@ -93,8 +93,8 @@ module _ {M : Type 1} {𝓤 : Ura M} (𝓛 : Logic 𝓤) (mem : Memory → SProp
   goes : (ν : ℕ) (δ : GName) → ent 𝓤 (sep 𝓤 (A.lft (ν ∷ []) full_share) (sem 𝓛 (Lent ν δ))) (Contr.pre (to ν δ))
   goes ν δ =
       qed 𝓛 (‵ (flft (ν ∷ []) full_share) ∷ ‵ (Lent ν δ) ∷ []) ∵ nothing ! $ move ! (1 ∷ 0 ∷ []) $ join ! $
-      nothing ! $ owned ! T.the_row (Is T.the_row) (LL.makes T.the_type T'.the_plain 𝓛) line _ line-is $ fjoin ! $
-      owned ! usize (Is usize) (uint_Makes 𝓛 w64) slot _ (refl, slot-fits) $ fjoin ! $
+      nothing ! $ owned ! T.the_row (Is T.the_row) (LL.makes T.the_type T'.the_plain 𝓛) line _ line_is $ fjoin ! $
+      owned ! usize (Is usize) (uint_Makes 𝓛 w64) slot _ (refl, slot_fits) $ fjoin ! $
       owned ! Boolean (Is Boolean) (bool_Makes 𝓛) due _ refl $ fjoin ! $ move ! (2 ∷ 0 ∷ []) $ fjoin ! $
       move ! (1 ∷ 0 ∷ []) $ join ! $ nothing ! $ move ! (1 ∷ 0 ∷ []) $ done !
 
@@ -118,7 +118,7 @@ module _ {M : Type 1} {𝓤 : Ura M} (𝓛 : Logic 𝓤) (mem : Memory → SProp
       -- [the last table; …; the token and the result; what was kept]
       move ! (2 ∷ []) $ split ! $ move ! (1 ∷ []) $ feq_l ! (λ is. split ! $ lft_end ! tt $ move ! (0 ∷ 4 ∷ 2 ∷ []) $
       use3 𝓛 (later (‵ (Own last.0) ⊛ ‵ (flft κ q)))
-      (comes-at T.the_row κ (ν ∷ []) q γ b o 𝓛 ℓ (named 0) lines n len δ last.0 room same) $ await ! tt $ split ! $
+      (comes_at T.the_row κ (ν ∷ []) q γ b o 𝓛 ℓ (named 0) lines n len δ last.0 room same) $ await ! tt $ split ! $
       rewrite ! 0 (λ (now : List Line). ‵ (Own now)) e refl $ at_once ! $ check ! (ap only is) $ keep ! (0 ∷ 1 ∷ []) $ done !)))))
 
   module _ (C : Calls 𝓤 H) (fm : FmC 𝓤 H 𝓛.laws C) (known : Triple 𝓤 (C #put-line) (PutLine 𝓛 mem run)) where
@@ -126,7 +126,7 @@ module _ {M : Type 1} {𝓤 : Ura M} (𝓛 : Logic 𝓤) (mem : Memory → SProp
     puts =
         qed 𝓛 (‵ (Own lines) ∷ ‵ (flft κ q) ∷ []) ∵ updating ! $ lft_new ! tt (λ ν. move ! (1 ∷ 2 ∷ []) $
         use2 𝓛 (later (some (λ (δ : GName). ‵ (Lent ν δ) ⊛ ‵ (Kept ν δ))))
-        (lends-at T.the_row κ (ν ∷ []) q γ b o 𝓛 ℓ (named 0) lines n len) $ await ! tt $ pick ! (λ δ. split ! $ at_once ! $
+        (lends_at T.the_row κ (ν ∷ []) q γ b o 𝓛 ℓ (named 0) lines n len) $ await ! tt $ pick ! (λ δ. split ! $ at_once ! $
         move ! (2 ∷ 0 ∷ []) $ use2 𝓛 (raw (Contr.pre (to ν δ))) (goes ν δ) $
         use1 𝓛 (raw (C #put-line passed (Contr.post (to ν δ)))) (known (to ν δ)) $
         by ! (fm #put-line passed (Contr.post (to ν δ)) After (sem 𝓛 (Kept ν δ)) (back ν δ))))

@@ -36,7 +36,7 @@ use Rattle.walk.specs.contracts.tally.Tally as S
 use Rattle.walk.proofs.tally.Tally.TheLaws as S'
 use Rattle.walk.specs.Turns.{step_of}
 use Rattle.walk.proofs.Values.{tally_val, TallyIs}
-use Rattle.walk.proofs.lines.walk.Proof.Again.{use4, LentAgain, lends-at, comes-at}
+use Rattle.walk.proofs.lines.walk.Proof.Again.{use4, LentAgain, lends_at, comes_at}
 use Rattle.walk.specs.contracts.lines.step as f
 use Rattle.walk.proofs.lines.step.Symbol.{name as #step}
 
@@ -137,7 +137,7 @@ module _ {M : Type 1} {𝓤 : Ura M} (𝓛 : Logic 𝓤) (mem : Memory → SProp
       -- [dead ν; true; the file's token; the last rows; …; the file and what was kept]
       move ! (5 ∷ []) $ fsplit ! $ move ! (2 ∷ 1 ∷ 5 ∷ []) $
       use3 𝓛 (later (‵ (Own last.1.0) ⊛ ‵ (flft κ q)))
-      (comes-at u64 κ (ν ∷ []) q γ b o 𝓛 ℓ (named 1) rows n len δ last.1.0 room same) $ await ! tt $ split ! $
+      (comes_at u64 κ (ν ∷ []) q γ b o 𝓛 ℓ (named 1) rows n len δ last.1.0 room same) $ await ! tt $ split ! $
       -- [the rows; their token; the file; true; the file's token; …]
       rewrite ! 0 (λ (now : List ℕ). ‵ (Own now)) left refl $ at_once ! $
       check ! (
@@ -154,7 +154,7 @@ module _ {M : Type 1} {𝓤 : Ura M} (𝓛 : Logic 𝓤) (mem : Memory → SProp
     steps settled =
         qed 𝓛 (‵ File ∷ ‵ (flft κ₀ q₀) ∷ ‵ (Own rows) ∷ ‵ (flft κ q) ∷ []) ∵ updating ! $ lft_new ! tt (λ ν. move ! (3 ∷ 4 ∷ []) $
         use2 𝓛 (later (some (λ (δ : GName). ‵ (Lent ν δ) ⊛ ‵ (LentAgain u64 κ (ν ∷ []) q γ b o δ rows))))
-        (lends-at u64 κ (ν ∷ []) q γ b o 𝓛 ℓ (named 1) rows n len) $ await ! tt $ pick ! (λ δ. split ! $ at_once ! $
+        (lends_at u64 κ (ν ∷ []) q γ b o 𝓛 ℓ (named 1) rows n len) $ await ! tt $ pick ! (λ δ. split ! $ at_once ! $
         -- [the rows lent again; what is kept; ν's token; the file; its token]
         move ! (3 ∷ []) $ use1 𝓛 (‵ File ⊛ ‵ File) ((shr_slice_copy 𝓛 (named 0) κ₀ u8).twice file (v₀ ∷ [])) $ split ! $
         move ! (0 ∷ 3 ∷ []) $ fjoin ! $ move ! (4 ∷ 1 ∷ 3 ∷ 2 ∷ 0 ∷ []) $

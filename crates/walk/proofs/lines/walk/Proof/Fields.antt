@@ -69,22 +69,22 @@ module _ {M : Type 1} {𝓤 : Ura M} {𝓛 : Logic 𝓤} {K : Type 0} {Γ : List
 
   module _ (t : K) (n : ℕ) (w : Tally) {b : ℕ} (here : nth 𝓛 n Γ ≡ ‵ (fat full_share (ty 5) b 0 (tally_val w))) where
     -- the same of the state
-    state-in : (k d : ℕ) {τ : Ty} {v : Val} → field_at zero (to_tys (mirs (fields S.the_type))) k ≡ some (τ, d)
+    state_in : (k d : ℕ) {τ : Ty} {v : Val} → field_at zero (to_tys (mirs (fields S.the_type))) k ≡ some (τ, d)
         → get_v (vals_of S.the_type S'.the_laws w) k ≡ v → Reads K 𝓛 Γ τ b (0 + d) v
     unfolding tally_val
-    state-in k d {τ} at e =
+    state_in k d {τ} at e =
         subst (λ (v : Val). Reads K 𝓛 Γ τ b (0 + d) v) e
         (field_in t n k d S.the_type S'.the_laws w
         (subst (λ (σ : Ty). nth 𝓛 n Γ ≡ ‵ (fat full_share σ b 0 (LL.val S.the_type S'.the_laws w))) state_is here) at)
 
     pub due_in : Reads K 𝓛 Γ ty_bool b 185 (vbool w.due)
-    due_in = state-in 6 185 refl refl
+    due_in = state_in 6 185 refl refl
 
-    pub slot-in : Reads K 𝓛 Γ (ty_int w64) b 192 (vint w64 w.slot)
-    slot-in = state-in 7 192 refl refl
+    pub slot_in : Reads K 𝓛 Γ (ty_int w64) b 192 (vint w64 w.slot)
+    slot_in = state_in 7 192 refl refl
 
-    pub line-in : Reads K 𝓛 Γ line_ty b 200 (line_val w.line)
-    line-in = state-in 8 200 refl refl
+    pub line_in_lem : Reads K 𝓛 Γ line_ty b 200 (line_val w.line)
+    line_in_lem = state_in 8 200 refl refl
 
-    pub going-in : Reads K 𝓛 Γ ty_bool b 320 (vbool w.going)
-    going-in = state-in 9 320 refl refl
+    pub going_in : Reads K 𝓛 Γ ty_bool b 320 (vbool w.going)
+    going_in = state_in 9 320 refl refl
