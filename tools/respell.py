@@ -162,6 +162,7 @@ def main():
     became = names_of(texts)
     for path, text in texts.items():
         here = FALL_TOGETHER.get(os.path.relpath(path, os.path.join(root, "crates")), {})
+        here = {k: v for k, v in here.items() if k in set(became.values())}
         new = in_antt(text, {**became, **here})
         if not dry and new != text:
             with open(path, "w", encoding="utf-8") as f:

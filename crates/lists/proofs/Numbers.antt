@@ -10,7 +10,7 @@ use lib.ListN.{drop}
 use borrow.Author.Tests.{ltb-false, eqb-true, eqb-false, lt-ltb, le-ltb, eq-eqb, ne_eqb}
 use Rattle.framing.proofs.Tests.{by_test}
 use Rattle.entries.specs.Decimal.{Spelling, digit, behind}
-use Rattle.lists.specs.Line.{Taken, taken, not_taken, then_take, next_is, is_digit_lem, take_digits, take_number}
+use Rattle.lists.specs.Line.{Taken, taken, not_taken, then_take, next_is, is_digit, take_digits, take_number}
 use Rattle.lists.proofs.Places.{digit_low, digit_high}
 
 -- it is so of what is taken, if anything is
@@ -46,19 +46,19 @@ next_stands octet [] e = absurd (false≢true e)
 next_stands octet (next ∷ more) e = ap (λ (o : ℕ). o ∷ more) (eqb-true next octet e)
 
 -- a digit's value
-is_digit_lem : (d : ℕ) → d < 10 → is_digit_lem (48 + d) ≡ true
-unfolding is_digit_lem
+is_digit_lem : (d : ℕ) → d < 10 → is_digit (48 + d) ≡ true
+unfolding is_digit
 is_digit_lem d small = rw (le-ltb (48 + d) 48 (omega arith), lt-ltb (48 + d) 58 (omega arith))
 
 -- an octet that is a digit spells its value alone, and behind a spelling
-alone : (octet : ℕ) → is_digit_lem octet ≡ true → Spelling (octet ∷ []) (octet - 48)
+alone : (octet : ℕ) → is_digit octet ≡ true → Spelling (octet ∷ []) (octet - 48)
 alone octet e =
     let low = digit_low octet e in
     let high = digit_high octet e in
     let is : 48 + (octet - 48) ≡ octet = omega arith in
     subst (λ (o : ℕ). Spelling (o ∷ []) (octet - 48)) is (digit {d = octet - 48} (omega arith))
 
-after : (octet : ℕ) {front : List ℕ} {n : ℕ} → is_digit_lem octet ≡ true → Spelling front n → 0 < n
+after : (octet : ℕ) {front : List ℕ} {n : ℕ} → is_digit octet ≡ true → Spelling front n → 0 < n
     → Spelling (front ++ (octet ∷ [])) (n * 10 + (octet - 48))
 after octet {front} {n} e so some =
     let low = digit_low octet e in
@@ -79,7 +79,7 @@ digits_spell most close value [] front so some small = tt
 digits_spell most close value (octet ∷ more) front so some small =
     let So = Stands (Behind front) (λ (n : ℕ). n ≤ most) close (octet ∷ more) in
     let longer = value * 10 + (octet - 48) in
-    by_test (Where So) (is_digit_lem octet)
+    by_test (Where So) (is_digit octet)
     (λ is_one. by_test (Where So) (ltb most longer) (λ over. tt) λ under.
     where_so (take_digits most close longer more)
     (λ n rest later. record {
@@ -122,7 +122,7 @@ number_stands most close (first ∷ more) nine =
           ∙ ap (λ (l : List ℕ). 48 ∷ l) (next_stands close more closed);
     })
     (λ goes_on. tt))
-    (λ other. by_test (Where So) (is_digit_lem first)
+    (λ other. by_test (Where So) (is_digit first)
     (λ is_one.
     let low = digit_low first is_one in
     let high = digit_high first is_one in
@@ -162,7 +162,7 @@ spelled_on most close tail (behind {front = front} {n = n} {d = d} so more small
     )
 
 -- a spelling of a number that is at most the most is taken where it stands closed
-pub number_taken_lem : (most close : ℕ) → is_digit_lem close ≡ false → {s : List ℕ} {n : ℕ} (rest : List ℕ)
+pub number_taken_lem : (most close : ℕ) → is_digit close ≡ false → {s : List ℕ} {n : ℕ} (rest : List ℕ)
     → Spelling s n → n ≤ most → take_number most close (s ++ (close ∷ rest)) ≡ taken n rest
 unfolding take_number next_is take_digits
 number_taken_lem most close none rest (digit {d = zero} small) under = rw (eq-eqb close close refl)

@@ -28,12 +28,12 @@ use Rattle.round_trip.specs.ReadBack.{listed_as, sections_from, message_sections
 use Rattle.round_trip.proofs.Numbers.{be_behind, be_digits}
 
 -- the plan's sections from an offset on, and section 8
-unfoldable pub to_end_lem : ℕ → List Part → List Section
-to_end_lem at [] = listed_as 8 at 4 ∷ []
-to_end_lem at (part ∷ more) = listed_as part.number at (part.length + 5) ∷ to_end_lem (at + (part.length + 5)) more
+unfoldable pub to_end : ℕ → List Part → List Section
+to_end at [] = listed_as 8 at 4 ∷ []
+to_end at (part ∷ more) = listed_as part.number at (part.length + 5) ∷ to_end (at + (part.length + 5)) more
 
-pub to_end_lem : (at : ℕ) (parts : List Part) → to_end_lem at parts ≡ sections_from at parts ++ (listed_as 8 (at + sections_size parts) 4 ∷ [])
-unfolding to_end_lem sections_from sections_size
+pub to_end_lem : (at : ℕ) (parts : List Part) → to_end at parts ≡ sections_from at parts ++ (listed_as 8 (at + sections_size parts) 4 ∷ [])
+unfolding to_end sections_from sections_size
 to_end_lem at [] = rw add-zero
 to_end_lem at (part ∷ more) = rw (to_end_lem (at + (part.length + 5)) more, add_assoc at (part.length + 5) (sections_size more))
 
@@ -141,8 +141,8 @@ module _ (store front later : List ℕ) (part : Part) (sound : Sound (length sto
 -- the sections and section 8, behind any octets
 body_listed : (store front : List ℕ) (parts : List Part) → AllSound (length store) parts
     → listing_on (front ++ body_octets parts store) (length front) (sections_size parts + 4)
-    ≡ record { sections = to_end_lem (length front) parts; ending = over }
-unfolding body_octets sections_size to_end_lem
+    ≡ record { sections = to_end (length front) parts; ending = over }
+unfolding body_octets sections_size to_end
 body_listed store front [] none =
     let file = front ++ end in
     let long : length file ≡ length front + 4 = length-append front end in
@@ -161,10 +161,10 @@ body_listed store front (part ∷ more) (one head tail) =
     let long : length (front ++ here) ≡ length front + (part.length + 5) =
     length-append front here ∙ rw (length_section store part head) in
     let ih : listing_on ((front ++ here) ++ later) (length (front ++ here)) (sections_size more + 4)
-    ≡ record { sections = to_end_lem (length (front ++ here)) more; ending = over } =
+    ≡ record { sections = to_end (length (front ++ here)) more; ending = over } =
     body_listed store (front ++ here) more tail in
     let after : listing_on file (length front + (part.length + 5)) (sections_size more + 4)
-    ≡ record { sections = to_end_lem (length front + (part.length + 5)) more; ending = over } =
+    ≡ record { sections = to_end (length front + (part.length + 5)) more; ending = over } =
     rw (append_assoc front here later, long) at ih in
     rw (listing_next file (length front) rest, section_there store front later part head rest (omega arith), left, after)
 
@@ -214,7 +214,7 @@ message_listed discipline reserved₁ reserved₂ parts store sound small =
     let front = indicator_octets discipline reserved₁ reserved₂ (total_of parts) in
     let file = front ++ body_octets parts store in
     let left : total_of parts - 16 ≡ sections_size parts + 4 = omega arith in
-    let after : listing_on file 16 (sections_size parts + 4) ≡ record { sections = to_end_lem 16 parts; ending = over } =
+    let after : listing_on file 16 (sections_size parts + 4) ≡ record { sections = to_end 16 parts; ending = over } =
     rw (length_indicator discipline reserved₁ reserved₂ (total_of parts)) at (body_listed store front parts sound) in
     listing_is file
     ∙ rw (

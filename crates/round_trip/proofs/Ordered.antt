@@ -13,7 +13,7 @@ use Rattle.order.specs.declared.Order.TheVariants.{AfterIndicator}
 use Rattle.order.specs.declared.Judged.{Judged}
 use Rattle.order.specs.declared.Judged.TheVariants.{Fits, Closes, Misplaced, NoGrid}
 use Rattle.order.proofs.Laws.{fits_below, fits_open, closes_only}
-use Rattle.writer.specs.Plan.{Part, Finding, no_fault, fault_at, plan_place, or_at_lem, closed_at_lem, misfit_from, misfit}
+use Rattle.writer.specs.Plan.{Part, Finding, no_fault, fault_at, plan_place, or_at, closed_at, misfit_from, misfit}
 use Rattle.writer.proofs.Checks.{not_passed, same_place, misfit_on, misfit_passed, misfit_closed, fits_from_1}
 use Rattle.round_trip.specs.Faults.{CantCome, Reaches, arrived, on, EndsAfter, OneMessage, Misfits, MisfitAfter, FirstMisfit}
 
@@ -40,19 +40,19 @@ never_fits order number within fits =
 
 -- a number that misfits is named
 or_at_lem : (order : Order) (number from : ℕ) (later : Order → Finding) → is_between order ≡ false → Misfits order number
-    → or_at_lem (judged order number) from later ≡ fault_at (plan_place from)
+    → or_at (judged order number) from later ≡ fault_at (plan_place from)
 or_at_lem order number from later within misfits = go (judged order number) refl
   where
-    go : (w : Judged) → judged order number ≡ w → or_at_lem w from later ≡ fault_at (plan_place from)
+    go : (w : Judged) → judged order number ≡ w → or_at w from later ≡ fault_at (plan_place from)
     go (Fits next) e = absurd (never_fits order number within e misfits)
     go Closes e = refl
     go Misplaced e = refl
     go NoGrid e = refl
 
-closed_at_lem : (order : Order) (from : ℕ) → CantCome order 8 → closed_at_lem (judged order 8) from ≡ fault_at (plan_place from)
+closed_at_lem : (order : Order) (from : ℕ) → CantCome order 8 → closed_at (judged order 8) from ≡ fault_at (plan_place from)
 closed_at_lem order from cant = go (judged order 8) refl
   where
-    go : (w : Judged) → judged order 8 ≡ w → closed_at_lem w from ≡ fault_at (plan_place from)
+    go : (w : Judged) → judged order 8 ≡ w → closed_at w from ≡ fault_at (plan_place from)
     go (Fits next) e = refl
     go Closes e =
         absurd
@@ -76,7 +76,7 @@ misfit_is order from at [] within e = go (judged order 8) refl e
       record { inside = omega arith; last = order; before = arrived; number = λ some. absurd (omega arith); only_8 = λ all. cant },
     )
 
-    go : (w : Judged) → judged order 8 ≡ w → closed_at_lem w from ≡ fault_at (plan_place at) → (j : ℕ) × (at ≡ from + j) × MisfitAfter order [] j
+    go : (w : Judged) → judged order 8 ≡ w → closed_at w from ≡ fault_at (plan_place at) → (j : ℕ) × (at ≡ from + j) × MisfitAfter order [] j
     go (Fits next) w e = absurd (let below = fits_below order 8 w in omega arith)
     go Closes w e = absurd (let z : ◌≡◌ {A = ℕ} 0 1 = cc in omega arith)
     go Misplaced w e = found (same_place e) (inl w)
@@ -91,7 +91,7 @@ misfit_is order from at (part ∷ more) within e =
       record { inside = omega arith; last = order; before = arrived; number = λ some. misfits; only_8 = λ all. absurd (omega arith) },
     )
 
-    go : (w : Judged) → judged order part.number ≡ w → or_at_lem w from (λ next. misfit_from next (from + 1) more) ≡ fault_at (plan_place at)
+    go : (w : Judged) → judged order part.number ≡ w → or_at w from (λ next. misfit_from next (from + 1) more) ≡ fault_at (plan_place at)
         → ((next : Order) → is_between next ≡ false → misfit_from next (from + 1) more ≡ fault_at (plan_place at)
         → (j : ℕ) × (at ≡ from + 1 + j) × MisfitAfter next more j)
         → (j : ℕ) × (at ≡ from + j) × MisfitAfter order (part ∷ more) j
