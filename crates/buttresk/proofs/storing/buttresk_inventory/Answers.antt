@@ -1,0 +1,7 @@
+-- `buttresk_inventory` meets its contract: the answer in numbers, and the buffer that the inventory left.
+use mathlib.Core.Path.{◌∙◌}
+use borrow.Author.Rules.{rules}
+use Rattle.buttresk.proofs.storing.buttresk_inventory.Goals as goal
+
+pub returns : goal.returns
+returns c = record { answer = c.five_of.ensures ∙ rw (c.inventory_end.ensures, c.inventory.ensures.answer); text = c.inventory.ensures.text }

@@ -1,0 +1,7 @@
+-- `buttresk_publish` meets its contract: the answer in numbers, and the destination that the public copy left.
+use mathlib.Core.Path.{◌∙◌}
+use borrow.Author.Rules.{rules}
+use Rattle.buttresk.proofs.storing.buttresk_publish.Goals as goal
+
+pub returns : goal.returns
+returns c = record { answer = c.five_of.ensures ∙ rw (c.copy_end.ensures, c.publish.ensures.answer); dest = c.publish.ensures.dest }

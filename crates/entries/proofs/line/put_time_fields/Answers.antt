@@ -1,0 +1,49 @@
+-- `put_time_fields` meets its contract: there are unit and time, or there is neither.
+use Prim.Native.Nat.{ℕ, ◌+◌, ◌≤◌, ◌<◌}
+use native.Mathlib.Omega.{arith}
+use mathlib.Core.Path.{◌≡◌}
+use mathlib.Core.List.{List, ◌∷◌, ◌++◌}
+use lib.ListN.{length}
+use borrow.Author.Rules.{rules}
+use Rattle.products.specs.declared.ForecastTime.{ForecastTime}
+use Rattle.products.specs.declared.MaybeTime.{MaybeTime}
+use Rattle.products.specs.declared.MaybeTime.TheVariants.{Time, NoTime}
+use Rattle.entries.specs.Decimal.{decimal}
+use Rattle.entries.specs.Entries.{colon, none_text, unit_text, time_text}
+use Rattle.entries.specs.Put.{PutBefore}
+use Rattle.entries.proofs.Put.{put_then, number_field_room}
+use Rattle.entries.proofs.line.put_time_fields.Goals as goal
+
+module _ {time : MaybeTime} {end middle start : ℕ} {dest between exit : List ℕ} (room : end ≤ length dest) where
+  given : {t : ForecastTime} → time ≡ Time t → t.unit < 256 → t.time < 4294967296
+      → PutBefore end (colon ∷ decimal t.time) dest middle between
+      → PutBefore middle (colon ∷ decimal t.unit) between start exit
+      → (end ≤ start + 15) × PutBefore end ((colon ∷ unit_text time) ++ (colon ∷ time_text time)) dest start exit
+  unfolding unit_text time_text
+  given e one four put put' =
+      let ten = number_field_room 9 (omega arith) (omega arith) put in
+      let three = number_field_room 2 (omega arith) (omega arith) put' in
+      (omega arith, rw e (put_then room put put'))
+
+  absent : time ≡ NoTime → PutBefore end (colon ∷ none_text) dest middle between
+      → PutBefore middle (colon ∷ none_text) between start exit
+      → (end ≤ start + 15) × PutBefore end ((colon ∷ unit_text time) ++ (colon ∷ time_text time)) dest start exit
+  unfolding unit_text time_text
+  absent e put put' = (omega (arith, put.starts, put'.starts), rw e (put_then room put put'))
+
+pub put_number_field-requires : goal.put_number_field-requires
+put_number_field-requires c =
+    let known = c.struct_known-1.given in
+    let ten = number_field_room 9 (omega (arith, known)) (omega (arith, known)) c.put_number_field-at.ensures.text in
+    (omega (arith, c.requires.0), search rules)
+
+pub returns-in-Time : goal.returns-in-Time
+returns-in-Time c =
+    let whole = given c.requires.1 c.in-Time.is (omega (arith, c.struct_known-in-Time-1.given))
+    (omega (arith, c.struct_known-1.given)) c.put_number_field-at.ensures.text c.put_number_field.ensures.text in
+    record { short = whole.0; text = whole.1 }
+
+pub returns-in-NoTime : goal.returns-in-NoTime
+returns-in-NoTime c =
+    let whole = absent c.requires.1 c.in-NoTime.is c.put_none_field-at.ensures c.put_none_field.ensures in
+    record { short = whole.0; text = whole.1 }

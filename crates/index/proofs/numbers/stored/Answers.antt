@@ -1,0 +1,8 @@
+-- `stored` meets its contract: a clean end, and the octets.
+use borrow.Author.Rules.{rules}
+use Rattle.index.specs.Numbers.{stored}
+use Rattle.index.proofs.numbers.stored.Goals as goal
+
+pub returns : goal.returns
+unfolding stored
+returns c = rw c.end_of.ensures

@@ -1,0 +1,15 @@
+-- `after_identification` meets its contract: each key decides the picks, and so does being none of the keys.
+use borrow.Author.Tests.{ne_eqb}
+use Rattle.order.proofs.after_identification.Goals as goal
+
+pub returns-in-2 : goal.returns-in-2
+returns-in-2 c = rw c.in-2.is
+
+pub returns-in-3 : goal.returns-in-3
+returns-in-3 c = rw c.in-3.is
+
+pub returns-in-4 : goal.returns-in-4
+returns-in-4 c = rw c.in-4.is
+
+pub returns-in_default : goal.returns-in_default
+returns-in_default c = let r = c.in-2.rest in simp (ne_eqb _ _ r.0.0.1, ne_eqb _ _ r.0.1, ne_eqb _ _ r.1)

@@ -1,0 +1,48 @@
+-- `when_and_where` meets its contract: with no supported template both are none, else each is what
+-- the template's offsets say.
+use Prim.Native.Nat.{ℕ}
+use mathlib.Core.Path.{◌≡◌, sym, ◌∙◌}
+use mathlib.Core.List.{List}
+use borrow.Author.Rules.{rules}
+use Rattle.products.specs.Readings.{offsets_of}
+use Rattle.products.specs.Products.{
+  supported_of,
+  time_at,
+  surfaces_at,
+  forecast_of,
+  fixed_of,
+  when_where_of,
+}
+use Rattle.products.specs.declared.templates.TemplateReading.{TemplateReading}
+use Rattle.products.specs.declared.templates.Offsets.{Offsets}
+use Rattle.products.specs.declared.MaybeTime.{MaybeTime}
+use Rattle.products.specs.declared.MaybeTime.TheVariants.{NoTime}
+use Rattle.products.specs.declared.MaybeSurfaces.{MaybeSurfaces}
+use Rattle.products.specs.declared.MaybeSurfaces.TheVariants.{NoSurfaces}
+use Rattle.products.specs.declared.Supported.TheVariants.{Template, NoTemplate}
+use Rattle.products.specs.declared.WhenWhere.{WhenWhere}
+use Rattle.products.proofs.when_and_where.Goals as goal
+
+abbrev answer : MaybeTime → MaybeSurfaces → WhenWhere
+answer time surfaces = record { time = time; surfaces = surfaces }
+
+module _ (reading : TemplateReading) (s : List ℕ) where
+  neither : supported_of s ≡ NoTemplate → answer NoTime NoSurfaces ≡ when_where_of reading s
+  unfolding when_where_of forecast_of fixed_of
+  neither e = rw e
+
+  told : (n : ℕ) (offsets : Offsets) (time : MaybeTime) (surfaces : MaybeSurfaces)
+      → supported_of s ≡ Template n → offsets ≡ offsets_of reading n
+      → time ≡ time_at s offsets → surfaces ≡ surfaces_at s offsets
+      → answer time surfaces ≡ when_where_of reading s
+  unfolding when_where_of forecast_of fixed_of
+  told n offsets time surfaces e o t f = rw (e, t, f, o)
+
+pub returns-in_default : goal.returns-in_default
+returns-in_default c = neither _ _ (sym c.supported_of.ensures ∙ c.in_default.is)
+
+pub returns : goal.returns
+returns c =
+    told _ _ _ _ _ _
+    (sym c.supported_of.ensures ∙ c.in-Template.is)
+    c.offsets_at-offsets.ensures c.time_at.ensures c.surfaces_at.ensures

@@ -1,0 +1,14 @@
+-- `blank` meets its contract: so far zeros are written up to i.
+use mathlib.Core.Path.{◌≡◌, refl, subst}
+use Prim.Native.Nat.{ℕ, ◌-◌, ◌≤◌}
+use native.Mathlib.Omega.{arith}
+use borrow.Author.Rules.{rules}
+use Rattle.publish.specs.Runs.{WroteRun, zeros}
+use Rattle.publish.proofs.Runs.{wrote_none, wrote_one}
+use Rattle.publish.proofs.blank.Given as goal
+
+abbrev pub invariant-loop-i : goal.invariant-loop-i
+invariant-loop-i l = (l.from ≤ l.i) × (l.i ≤ l.to) × WroteRun zeros l.from l.i l.initial.dest l.dest
+
+abbrev pub decreases-loop-i : goal.decreases-loop-i
+decreases-loop-i l = l.to - l.i

@@ -1,0 +1,41 @@
+-- `publish` meets its contract: 1, 19, then by how the walk ends.
+use mathlib.Core.Path.{refl, sym, ◌∙◌}
+use borrow.Author.Rules.{rules}
+use Rattle.publish.specs.Copy.{by_outcome}
+use Rattle.publish.proofs.Answers.{too_long, too_short, by_walk}
+use Rattle.publish.proofs.publish.Goals as goal
+
+pub returns-then-file-gt-MOST_OCTETS : goal.returns-then-file-gt-MOST_OCTETS
+returns-then-file-gt-MOST_OCTETS c =
+    let args = c.args in
+
+    let whole = rw (too_long args.file.now args.dest.now c.if-file-gt-MOST_OCTETS.true) (refl, refl) in
+    record { answer = whole.0; dest = whole.1 }
+
+pub returns-then-dest-file : goal.returns-then-dest-file
+returns-then-dest-file c =
+    let args = c.args in
+
+    let whole = rw (too_short args.file.now args.dest.now c.if-file-gt-MOST_OCTETS.false c.if-dest-file.true) (refl, refl) in
+    record { answer = whole.0; dest = whole.1 }
+
+pub put_copy-requires : goal.put_copy-requires
+put_copy-requires c = (c.if-file-gt-MOST_OCTETS.false, sym c.outcome_of-outcome.ensures ∙ c.in-Clean.is, c.if-dest-file.false)
+
+pub returns-in-Refused : goal.returns-in-Refused
+unfolding by_outcome
+returns-in-Refused c =
+    let args = c.args in
+    let ends = sym c.outcome_of-outcome.ensures ∙ c.in-Refused.is in
+
+    let whole = rw (by_walk args.file.now args.dest.now c.if-file-gt-MOST_OCTETS.false c.if-dest-file.false ends) (refl, refl) in
+    record { answer = whole.0; dest = whole.1 }
+
+pub returns-in-Clean : goal.returns-in-Clean
+unfolding by_outcome
+returns-in-Clean c =
+    let args = c.args in
+    let ends = sym c.outcome_of-outcome.ensures ∙ c.in-Clean.is in
+
+    let whole = rw (by_walk args.file.now args.dest.now c.if-file-gt-MOST_OCTETS.false c.if-dest-file.false ends) (refl, c.put_copy.ensures) in
+    record { answer = whole.0; dest = whole.1 }

@@ -1,0 +1,6 @@
+-- `hand_out` meets its contract: the section at its place, and the place behind it.
+use borrow.Author.Rules.{rules}
+use Rattle.pull.proofs.hand_out.Goals as goal
+
+pub returns : goal.returns
+returns c = rw c.further.ensures

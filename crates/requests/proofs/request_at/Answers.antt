@@ -1,0 +1,88 @@
+-- `requests::request_at` meets its contract: no octet stands there, or one of a kind, or of none.
+use mathlib.Core.Path.{◌∙◌}
+use borrow.Author.Tests.{le-leb, lt-leb, ne_eqb}
+use borrow.Author.Rules.{rules}
+use Rattle.requests.specs.Requests.{request_at}
+use Rattle.requests.proofs.request_at.Goals as goal
+
+pub returns-then-input-at : goal.returns-then-input-at
+unfolding request_at
+returns-then-input-at c = simp (le-leb _ _ c.if-input-at.true)
+
+pub returns-in-87 : goal.returns-in-87
+unfolding request_at
+returns-in-87 c =
+    c.walk_request_at.ensures
+    ∙ simp (lt-leb _ _ c.if-input-at.false, c.in-87.is)
+
+pub returns-in-80 : goal.returns-in-80
+unfolding request_at
+returns-in-80 c =
+    c.pull_request_at.ensures
+    ∙ simp (lt-leb _ _ c.if-input-at.false, c.in-80.is)
+
+pub returns-in-67 : goal.returns-in-67
+unfolding request_at
+returns-in-67 c =
+    c.copy_request_at.ensures
+    ∙ simp (lt-leb _ _ c.if-input-at.false, c.in-67.is)
+
+pub returns-in-77 : goal.returns-in-77
+unfolding request_at
+returns-in-77 c =
+    c.write_request_at.ensures
+    ∙ simp (lt-leb _ _ c.if-input-at.false, c.in-77.is)
+
+pub returns-in-70 : goal.returns-in-70
+unfolding request_at
+returns-in-70 c =
+    c.fields_request_at.ensures
+    ∙ simp (lt-leb _ _ c.if-input-at.false, c.in-70.is)
+
+pub returns-in-83 : goal.returns-in-83
+unfolding request_at
+returns-in-83 c =
+    c.signed_request_at.ensures
+    ∙ simp (lt-leb _ _ c.if-input-at.false, c.in-83.is)
+
+pub returns-in-73 : goal.returns-in-73
+unfolding request_at
+returns-in-73 c =
+    c.inventory_request_at.ensures
+    ∙ simp (lt-leb _ _ c.if-input-at.false, c.in-73.is)
+
+pub returns-in-82 : goal.returns-in-82
+unfolding request_at
+returns-in-82 c =
+    c.list_request_at.ensures
+    ∙ simp (lt-leb _ _ c.if-input-at.false, c.in-82.is)
+
+pub returns-in-79 : goal.returns-in-79
+unfolding request_at
+returns-in-79 c =
+    c.offsets_request_at.ensures
+    ∙ simp (lt-leb _ _ c.if-input-at.false, c.in-79.is)
+
+pub returns-in-84 : goal.returns-in-84
+unfolding request_at
+returns-in-84 c =
+    c.when_where_request_at.ensures
+    ∙ simp (lt-leb _ _ c.if-input-at.false, c.in-84.is)
+
+pub returns-in_default : goal.returns-in_default
+unfolding request_at
+returns-in_default c =
+    let r = c.in-87.rest in
+    simp (
+      lt-leb _ _ c.if-input-at.false,
+      ne_eqb _ _ r.1,
+      ne_eqb _ _ r.0.1,
+      ne_eqb _ _ r.0.0.1,
+      ne_eqb _ _ r.0.0.0.1,
+      ne_eqb _ _ r.0.0.0.0.1,
+      ne_eqb _ _ r.0.0.0.0.0.1,
+      ne_eqb _ _ r.0.0.0.0.0.0.1,
+      ne_eqb _ _ r.0.0.0.0.0.0.0.1,
+      ne_eqb _ _ r.0.0.0.0.0.0.0.0.1,
+      ne_eqb _ _ r.0.0.0.0.0.0.0.0.0.1,
+    )

@@ -1,0 +1,14 @@
+-- `ProdDefinition::from_payload` meets its contract: a payload is under the least or not.
+use borrow.Author.Tests.{lt-ltb, le-ltb}
+use Rattle.octets.specs.BigEndian.{be_at}
+use Rattle.sections.specs.ProdDefinition.{prod_definition_of}
+use borrow.Author.Rules.{rules}
+use Rattle.sections.proofs.prod_definition.ProdDefinition.from_payload.Goals as goal
+
+pub returns-then-payload-lt-LEAST_PAYLOAD : goal.returns-then-payload-lt-LEAST_PAYLOAD
+unfolding prod_definition_of
+returns-then-payload-lt-LEAST_PAYLOAD c = simp (lt-ltb _ _ c.if-payload-lt-LEAST_PAYLOAD.true)
+
+pub returns : goal.returns
+unfolding prod_definition_of be_at
+returns c = simp (le-ltb _ _ c.if-payload-lt-LEAST_PAYLOAD.false, c.be16.ensures, c.be16-2.ensures)

@@ -1,0 +1,6 @@
+-- `told` meets its contract: what its callees make of the line and of the next submessage.
+use borrow.Author.Rules.{rules}
+use Rattle.walk.proofs.tally.told.Goals as goal
+
+pub returns : goal.returns
+returns c = simp (c.line_of-t.ensures, c.one_more-2.ensures, c.with_submessage-t.ensures, c.one_more.ensures)

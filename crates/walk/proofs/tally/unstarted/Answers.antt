@@ -1,0 +1,6 @@
+-- `unstarted` meets its contract: its callees' answers are put together.
+use borrow.Author.Rules.{rules}
+use Rattle.walk.proofs.tally.unstarted.Goals as goal
+
+pub returns : goal.returns
+returns c = simp (c.line_of.ensures, c.unlisted.ensures, c.start.ensures, c.opened-force.ensures)

@@ -1,0 +1,6 @@
+-- `unbegun` meets its contract: its callees' answers are put together.
+use borrow.Author.Rules.{rules}
+use Rattle.walk_numbers.proofs.moves.unbegun.Goals as goal
+
+pub returns : goal.returns
+returns c = rw (c.unlisted.ensures, c.start.ensures)

@@ -1,0 +1,23 @@
+-- `put_part` meets its contract. The loop keeps that the octets so far are copied.
+use Prim.Native.Nat.{ℕ, ◌+◌, ◌-◌, ◌≤◌, ◌<◌}
+use native.Mathlib.Omega.{arith}
+use native.Mathlib.Numerals.{add-one}
+use mathlib.Core.Path.{◌≡◌, refl, ap, ◌∙◌}
+use mathlib.Core.List.{List}
+use lib.ListN.{length, take, drop, get_or, set, length-set, length-drop}
+use lib.Seq.{paste, paste-zero, paste-suc, get_or-drop}
+use borrow.Author.Rules.{rules}
+use Rattle.writer.specs.Put.{written_at}
+use Rattle.writer.proofs.Stored.{put_paste}
+use Rattle.writer.proofs.put.put_part.Given as goal
+
+pub record Copied (store : List ℕ) (from octets : ℕ) (dest : List ℕ) (at : ℕ) (d : List ℕ) (i : ℕ) : Type 0 where
+  pub within : i ≤ octets
+  pub long : length d ≡ length dest
+  pub same : d ≡ paste dest at (drop from store) i
+
+abbrev pub invariant-loop-i : goal.invariant-loop-i
+invariant-loop-i l = Copied l.store l.from l.octets l.initial.dest l.at l.dest l.i
+
+abbrev pub decreases-loop-i : goal.decreases-loop-i
+decreases-loop-i l = l.octets - l.i
