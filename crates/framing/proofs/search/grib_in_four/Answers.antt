@@ -38,5 +38,5 @@ pub returns-in_default : goal.returns-in_default
 returns-in_default c =
     let i = c.args.i in
     λ k below from. none_but _ i 4 _ refl
-    (λ z. c.in-66.rest.0.0.0.1, λ z. c.in-66.rest.0.0.1, λ z. c.in-66.rest.0.1, λ z. c.in-66.rest.1)
+    (λ z s. omega arith, λ z s. omega arith, λ z s. omega arith, λ z s. omega arith)
     k below from (λ z. omega arith)

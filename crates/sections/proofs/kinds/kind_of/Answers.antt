@@ -43,15 +43,15 @@ returns-in-8 c = simp (c.kind-in-8.ensures, c.in-8.is)
 pub returns-in_default : goal.returns-in_default
 unfolding kind_of kinds
 returns-in_default c =
-    let r = c.in-0.rest in
+    let none : (n : ℕ) → n < 9 → c.args.number ≡ n → ⊥ = λ n few is. omega arith in
     simp (
-      ne_eqb _ _ r.1,
-      ne_eqb _ _ r.0.1,
-      ne_eqb _ _ r.0.0.1,
-      ne_eqb _ _ r.0.0.0.1,
-      ne_eqb _ _ r.0.0.0.0.1,
-      ne_eqb _ _ r.0.0.0.0.0.1,
-      ne_eqb _ _ r.0.0.0.0.0.0.1,
-      ne_eqb _ _ r.0.0.0.0.0.0.0.1,
-      ne_eqb _ _ r.0.0.0.0.0.0.0.0.1,
+      ne_eqb _ _ (none 0 (omega arith)),
+      ne_eqb _ _ (none 1 (omega arith)),
+      ne_eqb _ _ (none 2 (omega arith)),
+      ne_eqb _ _ (none 3 (omega arith)),
+      ne_eqb _ _ (none 4 (omega arith)),
+      ne_eqb _ _ (none 5 (omega arith)),
+      ne_eqb _ _ (none 6 (omega arith)),
+      ne_eqb _ _ (none 7 (omega arith)),
+      ne_eqb _ _ (none 8 (omega arith)),
     )
