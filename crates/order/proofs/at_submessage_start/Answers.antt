@@ -12,4 +12,10 @@ pub returns-in-4 : goal.returns-in-4
 returns-in-4 c = rw c.in-4.is
 
 pub returns-in_default : goal.returns-in_default
-returns-in_default c = let r = c.in-2.rest in simp (ne_eqb _ _ r.0.0.1, ne_eqb _ _ r.0.1, ne_eqb _ _ r.1)
+returns-in_default c = 
+    let none : (n : ℕ) → 1 < n → n < 5 → c.args.number ≡ n → ⊥ = λ n low few is. omega arith in
+    simp (
+      ne_eqb _ _ (none 2 (omega arith) (omega arith)),
+      ne_eqb _ _ (none 3 (omega arith) (omega arith)),
+      ne_eqb _ _ (none 4 (omega arith) (omega arith)),
+    )

@@ -1,4 +1,7 @@
 -- `kind_of` meets its contract: in each arm the number is known, and in the last it is no kind's.
+use Prim.Native.Nat.{ℕ, ◌<◌}
+use mathlib.Core.Path.{◌≡◌}
+use native.Mathlib.Omega.{arith}
 use borrow.Author.Tests.{ne_eqb}
 use Rattle.sections.specs.Kinds.{kinds, kind_of}
 use borrow.Author.Rules.{rules}
