@@ -1,4 +1,7 @@
 -- `at_submessage_start` meets its contract: each key decides the picks, and so does being none of the keys.
+use Prim.Native.Nat.{ℕ, ◌<◌}
+use mathlib.Core.Path.{◌≡◌}
+use native.Mathlib.Omega.{arith}
 use borrow.Author.Tests.{ne_eqb}
 use Rattle.order.proofs.at_submessage_start.Goals as goal
 
@@ -12,7 +15,7 @@ pub returns-in-4 : goal.returns-in-4
 returns-in-4 c = rw c.in-4.is
 
 pub returns-in_default : goal.returns-in_default
-returns-in_default c = 
+returns-in_default c =
     let none : (n : ℕ) → 1 < n → n < 5 → c.args.number ≡ n → ⊥ = λ n low few is. omega arith in
     simp (
       ne_eqb _ _ (none 2 (omega arith) (omega arith)),

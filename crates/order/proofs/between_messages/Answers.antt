@@ -1,24 +1,14 @@
 -- `between_messages` meets its contract: every order but the first is inside a message.
 use mathlib.Core.Bool.{false}
-use mathlib.Core.List.{List, [], ◌∷◌}
 use mathlib.Core.Path.{◌≡◌, refl}
-use Prim.Native.Nat.{ℕ}
-use denote.Enum.Declared.{tag_of}
-use types.Run.{OneOf, miss}
-use borrow.Author.Rules.{rules}
 use Rattle.order.specs.Order.{is_between}
 use Rattle.order.specs.declared.Order.{Order}
 use Rattle.order.specs.declared.Order.TheVariants as orders
-use Rattle.order.specs.contracts.Order.{the_type}
 use Rattle.order.proofs.between_messages.Goals as goal
 
--- the tags of the orders of the second arm
-abbrev others : List ℕ
-others = 1 ∷ 2 ∷ 3 ∷ 4 ∷ 5 ∷ 6 ∷ 7 ∷ 8 ∷ 9 ∷ []
-
-inside : (order : Order) → OneOf others (tag_of the_type order) → false ≡ is_between order
+inside : (order : Order) → (order ≡ orders.BetweenMessages → ⊥) → false ≡ is_between order
 unfolding is_between
-inside orders.BetweenMessages told = absurd (miss others 0 tt told)
+inside orders.BetweenMessages told = absurd (told refl)
 inside orders.AfterIndicator told = refl
 inside orders.AfterIdentification told = refl
 inside orders.AfterLocalUse told = refl
@@ -35,4 +25,4 @@ returns-in-BetweenMessages c = rw c.in-BetweenMessages.is
 
 pub returns-in_default : goal.returns-in_default
 unfolding is_between
-returns-in_default c = inside c.args.order c.in-BetweenMessages.keys2
+returns-in_default c = inside c.args.order c.in_default.not-BetweenMessages

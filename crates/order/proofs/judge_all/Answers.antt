@@ -16,6 +16,7 @@ use Rattle.order.specs.declared.Judged.{Judged}
 use Rattle.order.specs.declared.Judged.TheVariants.{Fits, Closes}
 use Rattle.order.specs.declared.Verdict.TheVariants.{Clean, InputOver}
 use Rattle.order.proofs.judge_all.Goals as goal
+use Rattle.order.proofs.judge_all.Goals.{in-Fits, in-Closes}
 use Rattle.order.proofs.judge_all.Invariants.{Kept}
 
 start : (numbers : List ℕ) → Kept numbers BetweenMessages 0
@@ -59,10 +60,11 @@ pub loop-i-preserved : goal.loop-i-preserved
 loop-i-preserved c =
     let answer = sym c.judge-judged.ensures in
     let kept = c.loop-i.invariant in
-    ⊎_elim
-    (λ w. rw w.3 (fits kept c.loop-i-test.true (answer ∙ w.1.given.1)))
-    (λ w. rw w.2 (closes kept c.loop-i-test.true (answer ∙ w.1.given.1)))
-    c.in-Fits.branch
+    let inside = c.loop-i-test.true in
+    elim c.match-judged.branch [
+        in-Fits w ↦ rw w.order-is (fits kept inside (answer ∙ w.in-Fits.is))
+      | in-Closes w ↦ rw w.order-is (closes kept inside (answer ∙ w.in-Closes.is))
+    ]
 
 pub returns-then-between_messages : goal.returns-then-between_messages
 returns-then-between_messages c =

@@ -1,35 +1,35 @@
 -- `judge_read` meets its contract: between messages nothing is asked. Else in each arm the order is the arm's, and the answer is what the
 -- callee ensures; in the last arm a submessage starts, since a message is open.
 use mathlib.Core.Bool.{true, false, true≢false}
-use mathlib.Core.List.{List, [], ◌∷◌}
 use mathlib.Core.Path.{◌≡◌, refl, sym, ◌∙◌}
 use Prim.Native.Nat.{ℕ}
-use denote.Enum.Declared.{tag_of}
-use types.Run.{OneOf, miss}
-use borrow.Author.Rules.{rules}
 use Rattle.order.specs.Order.{at_submessage_start, judged, is_between, judged_read}
 use Rattle.order.specs.declared.Order.{Order}
 use Rattle.order.specs.declared.Order.TheVariants as orders
-use Rattle.order.specs.contracts.Order.{the_type}
 use Rattle.order.proofs.judge_read.Goals as goal
 
--- the tags of the orders of the last arm
-abbrev others : List ℕ
-others = 0 ∷ 9 ∷ []
-
-starts : (order : Order) (number : ℕ) → is_between order ≡ false → OneOf others (tag_of the_type order)
+-- the order of the last arm is none of the arms before it
+starts : (order : Order) (number : ℕ) → is_between order ≡ false
+    → (order ≡ orders.AfterIndicator → ⊥)
+    → (order ≡ orders.AfterIdentification → ⊥)
+    → (order ≡ orders.AfterLocalUse → ⊥)
+    → (order ≡ orders.AfterGrid → ⊥)
+    → (order ≡ orders.AfterProduct → ⊥)
+    → (order ≡ orders.AfterRepresentation → ⊥)
+    → (order ≡ orders.AfterBitMap → ⊥)
+    → (order ≡ orders.AfterData → ⊥)
     → at_submessage_start number ≡ judged_read order number
 unfolding is_between judged_read judged
-starts orders.BetweenMessages number inside told = absurd (true≢false inside)
-starts orders.AfterIndicator number inside told = absurd (miss others 1 tt told)
-starts orders.AfterIdentification number inside told = absurd (miss others 2 tt told)
-starts orders.AfterLocalUse number inside told = absurd (miss others 3 tt told)
-starts orders.AfterGrid number inside told = absurd (miss others 4 tt told)
-starts orders.AfterProduct number inside told = absurd (miss others 5 tt told)
-starts orders.AfterRepresentation number inside told = absurd (miss others 6 tt told)
-starts orders.AfterBitMap number inside told = absurd (miss others 7 tt told)
-starts orders.AfterData number inside told = absurd (miss others 8 tt told)
-starts orders.SubmessageStart number inside told = refl
+starts orders.BetweenMessages number inside _ _ _ _ _ _ _ _ = absurd (true≢false inside)
+starts orders.AfterIndicator number inside never _ _ _ _ _ _ _ = absurd (never refl)
+starts orders.AfterIdentification number inside _ never _ _ _ _ _ _ = absurd (never refl)
+starts orders.AfterLocalUse number inside _ _ never _ _ _ _ _ = absurd (never refl)
+starts orders.AfterGrid number inside _ _ _ never _ _ _ _ = absurd (never refl)
+starts orders.AfterProduct number inside _ _ _ _ never _ _ _ = absurd (never refl)
+starts orders.AfterRepresentation number inside _ _ _ _ _ never _ _ = absurd (never refl)
+starts orders.AfterBitMap number inside _ _ _ _ _ _ never _ = absurd (never refl)
+starts orders.AfterData number inside _ _ _ _ _ _ _ never = absurd (never refl)
+starts orders.SubmessageStart number inside _ _ _ _ _ _ _ _ = refl
 
 pub returns-then-between_messages : goal.returns-then-between_messages
 unfolding judged_read judged is_between
@@ -71,4 +71,12 @@ pub returns-in_default : goal.returns-in_default
 unfolding judged_read judged is_between
 returns-in_default c =
     c.at_submessage_start.ensures
-    ∙ starts c.args.order c.args.number (sym c.between_messages.ensures ∙ c.if-between_messages.false) c.in-AfterIndicator.keys9
+    ∙ starts c.args.order c.args.number (sym c.between_messages.ensures ∙ c.if-between_messages.false)
+    c.in_default.not-AfterIndicator
+    c.in_default.not-AfterIdentification
+    c.in_default.not-AfterLocalUse
+    c.in_default.not-AfterGrid
+    c.in_default.not-AfterProduct
+    c.in_default.not-AfterRepresentation
+    c.in_default.not-AfterBitMap
+    c.in_default.not-AfterData
