@@ -31,6 +31,6 @@ returns c =
       le-ltb _ _ c.if-s-lt6.false,
       sym c.sign_and_size.ensures ∙ c.in-Number.is,
       sym c.sign_and_size-2.ensures ∙ c.in-Number-sign_and_size.is,
-      to_z-of_z {w = w32} {z = c.in-Number.factor} (sfits_of (omega arith)),
-      to_z-of_z {w = w32} {z = c.in-Number-sign_and_size.value} (sfits_of (omega arith)),
+      to_z-of_z {w = w32} {z = c.in-Number.factor} (sfits_of (search rules)),
+      to_z-of_z {w = w32} {z = c.in-Number-sign_and_size.value} (sfits_of (search rules)),
     )
