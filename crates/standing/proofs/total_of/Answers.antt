@@ -5,4 +5,4 @@ use Rattle.standing.proofs.total_of.Goals as goal
 
 pub returns : goal.returns
 unfolding total_of
-returns c = c.wrapping_add_u64.ensures
+returns c = c.wrapping_add_u64.ensures.value

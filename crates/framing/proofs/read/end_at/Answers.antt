@@ -1,6 +1,5 @@
 -- `end_at` meets its contract: the file is cut, or has "7777", or has not.
 use mathlib.Core.Path.{◌∙◌}
-use borrow.Author.Rules.{rules}
 use borrow.Author.Tests.{lt-ltb, le-ltb}
 use Rattle.framing.specs.Framing.{end_at}
 use Rattle.framing.proofs.read.end_at.Goals as goal

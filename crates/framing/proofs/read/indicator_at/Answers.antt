@@ -4,7 +4,6 @@ use native.Mathlib.Nat.{add_assoc}
 use mathlib.Core.Path.{◌≡◌, ◌∙◌}
 use mathlib.Core.List.{List, [], ◌∷◌}
 use lib.ListN.{get_or}
-use borrow.Author.Rules.{rules}
 use borrow.Author.Tests.{lt-ltb, le-ltb, eq-eqb, ne_eqb}
 use Rattle.octets.specs.BigEndian.{be_at}
 use Rattle.framing.specs.Framing.{indicator_at}

@@ -1,5 +1,4 @@
 -- `is_cut` meets its contract: the tests before each return decide `is_cut`.
-use borrow.Author.Rules.{rules}
 use borrow.Author.Tests.{lt-ltb, le-ltb, eq-eqb, ne_eqb}
 use Rattle.framing.specs.Framing.{is_cut}
 use Rattle.framing.proofs.read.is_cut.Goals as goal

@@ -1,5 +1,4 @@
 -- `missing` meets its contract: the file ends before the payload's stated end, or it does not.
-use borrow.Author.Rules.{rules}
 use borrow.Author.Tests.{lt-ltb, le-ltb}
 use Rattle.framing.specs.Framing.{missing}
 use Rattle.framing.proofs.read.missing.Goals as goal

@@ -1,4 +1,3 @@
-use borrow.Author.Rules.{rules}
 use Rattle.framing.specs.Framing.{framed}
 use Rattle.framing.proofs.read.over.Goals as goal
 

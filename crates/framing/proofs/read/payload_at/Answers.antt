@@ -1,6 +1,5 @@
 -- `payload_at` meets its contract: each return's tests are those that `payload_at` makes, in its order.
 use mathlib.Core.Path.{sym, ◌∙◌}
-use borrow.Author.Rules.{rules}
 use borrow.Author.Tests.{lt-ltb, le-ltb}
 use Rattle.framing.specs.Framing.{payload_at}
 use Rattle.framing.proofs.read.payload_at.Goals as goal

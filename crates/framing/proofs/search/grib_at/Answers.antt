@@ -1,5 +1,4 @@
 -- `grib_at` meets its contract: the word stands there or not.
-use borrow.Author.Rules.{rules}
 use Rattle.framing.specs.Search.{grib_at}
 use Rattle.framing.proofs.search.grib_at.Goals as goal
 

@@ -2,7 +2,6 @@
 use Prim.Native.Nat.{◌+◌}
 use native.Mathlib.Omega.{arith}
 use mathlib.Core.Path.{refl}
-use borrow.Author.Rules.{rules}
 use Rattle.framing.proofs.NextStart.{none_but, in_four}
 use Rattle.framing.proofs.search.grib_in_four.Goals as goal
 

@@ -1,11 +1,7 @@
 -- `next_start` meets its contract. The loop's invariant: no message starts from `at` up to `i`; it has no start behind
 -- `last` to look for.
-use Prim.Native.Nat.{ℕ, suc, ◌-◌, ◌≤◌, ◌<◌}
 use native.Mathlib.Omega.{arith}
-use mathlib.Core.Path.{◌≡◌}
-use mathlib.Core.Bool.{true}
 use borrow.Author.Rules.{rules}
-use Rattle.framing.specs.Search.{starts_at}
 use Rattle.framing.proofs.NextStart.{start_room, found_start, found_late, not_found}
 use Rattle.framing.proofs.search.next_start.Goals as goal
 

@@ -34,6 +34,6 @@ returns c =
     record {
       reads =
           end_reads c.args.file.now c.args.cursor.at.0 c.args.cursor.rest c.if-cursor.false c.if-file-at.false
-          c.if-file-at-lt-WHOLE_SIZE.false (sym c.is_end_mark.ensures ∙ not-false _ c.if-not-is_end_mark.false);
+          c.if-file-at-lt-WHOLE_SIZE.false (sym c.is_end_mark.ensures ∙ c.if-not-is_end_mark.false);
       closes = rw c.in-AfterData.is;
     }

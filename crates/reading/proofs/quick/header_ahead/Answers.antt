@@ -50,11 +50,11 @@ returns c =
     let number = get_or file (at + 4) 0 in
     let len = c.be32-length.result in
     let is = c.be32-length.ensures ∙ four file at in
-    let passes = c.is_whole.ensures (not-false _ c.if-not-is_whole.false) in
+    let passes = c.is_whole.ensures c.if-not-is_whole.false in
     record {
       reads =
           header_reads file at rest c.if-cursor.false c.if-file-at.false c.if-left-lt-HEADER_SIZE.false (rw (sym is) passes.0)
           (subst (λ (n : ℕ). payload_at (least_payload_of number) at number n (length file - at) rest ≡ section_at number at len (rest - len)) is
           (passes.1 at rest c.if-cursor-octets.false));
-      fitting = c.is_usual.ensures (not-false _ c.if-not-is_usual.false);
+      fitting = c.is_usual.ensures c.if-not-is_usual.false;
     }

@@ -8,7 +8,7 @@ use Rattle.reading.proofs.quick.is_local_or_grid.Goals as goal
 
 pub returns-then-number-eq-NUMBER : goal.returns-then-number-eq-NUMBER
 unfolding Usual judged_read judged is_between last_read
-returns-then-number-eq-NUMBER c = is_key AfterIdentification _ 2 refl c.if-number-eq-NUMBER.true
+returns-then-number-eq-NUMBER c = λ e. is_key AfterIdentification _ 2 refl c.if-number-eq-NUMBER.true
 
 pub returns : goal.returns
 unfolding Usual judged_read judged is_between last_read

@@ -10,15 +10,15 @@ use Rattle.reading.proofs.quick.is_whole.Goals as goal
 
 pub returns-in_default : goal.returns-in_default
 unfolding WholeAhead
-returns-in_default c = absurd (false≢true e)
+returns-in_default c = λ e. absurd (false≢true e)
 
 pub returns-then-whole-lt-HEADER_SIZE : goal.returns-then-whole-lt-HEADER_SIZE
 unfolding WholeAhead
-returns-then-whole-lt-HEADER_SIZE c = absurd (false≢true e)
+returns-then-whole-lt-HEADER_SIZE c = λ e. absurd (false≢true e)
 
 pub returns-then-whole-least : goal.returns-then-whole-least
 unfolding WholeAhead
-returns-then-whole-least c = absurd (false≢true e)
+returns-then-whole-least c = λ e. absurd (false≢true e)
 
 pub returns-then-number-eq-NUMBER : goal.returns-then-number-eq-NUMBER
 unfolding WholeAhead is_cut

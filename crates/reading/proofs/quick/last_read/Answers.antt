@@ -1,4 +1,7 @@
 -- `last_read` meets its contract: each key decides the picks, and so does being none of the keys.
+use Prim.Native.Nat.{ℕ, ◌<◌}
+use mathlib.Core.Path.{◌≡◌}
+use native.Mathlib.Omega.{arith}
 use borrow.Author.Tests.{ne_eqb}
 use Rattle.reading.specs.Glance.{last_read}
 use Rattle.reading.proofs.quick.last_read.Goals as goal
@@ -34,13 +37,13 @@ returns-in-6 c = rw c.in-6.is
 pub returns-in_default : goal.returns-in_default
 unfolding last_read
 returns-in_default c =
-    let r = c.in-0.rest in
+    let none : (n : ℕ) → n < 7 → c.args.number ≡ n → ⊥ = λ n few is. omega arith in
     simp (
-      ne_eqb _ _ r.0.0.0.0.0.0.1,
-      ne_eqb _ _ r.0.0.0.0.0.1,
-      ne_eqb _ _ r.0.0.0.0.1,
-      ne_eqb _ _ r.0.0.0.1,
-      ne_eqb _ _ r.0.0.1,
-      ne_eqb _ _ r.0.1,
-      ne_eqb _ _ r.1,
+      ne_eqb _ _ (none 0 (omega arith)),
+      ne_eqb _ _ (none 1 (omega arith)),
+      ne_eqb _ _ (none 2 (omega arith)),
+      ne_eqb _ _ (none 3 (omega arith)),
+      ne_eqb _ _ (none 4 (omega arith)),
+      ne_eqb _ _ (none 5 (omega arith)),
+      ne_eqb _ _ (none 6 (omega arith)),
     )
