@@ -4,10 +4,11 @@
 usage: python3 tools/respell.py [--dry] [ROOT]
 
 A definition, a lemma, a field or a constructor in small camel case (`beAt`) or joined by dashes
-(`read-sect0`) gets underscores; a name of the transcription with a middle dot (`IterL1·write`) gets
-a dash there. A dash before a capital stays. A lemma that would get the name of another definition
-gets `_lem`. What a function of src/ is called, what the toolchain makes (goals, steps, layouts), and
-texts stay as they are. Run right after the toolchain's own script, over the whole repository.
+(`read-sect0`) gets underscores; a name of the transcription with a middle dot (`IterL1·write`)
+gets a dash there. A dash before a capital stays. A lemma that would get the name of another
+definition gets `_lem`. What a function of src/ is called, what the toolchain makes (goals, steps,
+layouts), and texts stay as they are. Run right after the toolchain's own script, over the whole
+repository.
 """
 
 import collections
@@ -20,7 +21,8 @@ HUMP = re.compile(r"[a-z0-9'][A-Z]")
 DECLARED = re.compile(r"^\s*(?:(?:unfoldable|abbrev|pub|data|record|codata|opaque|private) )*"
                       r"([^\s:({]+)(?:\s*[({][^=]*)?\s*:(?!=)(.*)$")
 # a lemma of a section or of a `where`
-NESTED = re.compile(r"^ +(?:(?:unfoldable|abbrev|pub) )*([a-z][\w']*-[^\s:({.]*)(?:\s*[({][^=]*)?\s*:(?!=)(.*)$")
+NESTED = re.compile(r"^ +(?:(?:unfoldable|abbrev|pub) )*([a-z][\w']*-[^\s:({.]*)"
+                    r"(?:\s*[({][^=]*)?\s*:(?!=)(.*)$")
 SKIPPED = ("use ", "pub use ", "--", "open ", "unfolding ", "module ", "mod ", "pub mod ")
 # lemmas of one file, and of the files that take them from it, whose name a definition gets
 FALL_TOGETHER = {
@@ -28,7 +30,10 @@ FALL_TOGETHER = {
     "round_trip/proofs/Listed.antt": {"to_end": "to_end_lem"},
     "round_trip/proofs/ReadsBack.antt": {"to_end": "to_end_lem"},
     "round_trip/proofs/Ordered.antt": {"or_at": "or_at_lem", "closed_at": "closed_at_lem"},
-    "writer/proofs/plan/first_misfit/Proof.antt": {"or_at": "or_at_lem", "closed_at": "closed_at_lem"},
+    "writer/proofs/plan/first_misfit/Proof.antt": {
+        "or_at": "or_at_lem",
+        "closed_at": "closed_at_lem",
+    },
 }
 # made by the toolchain, not by a declaration of ours
 MADE = re.compile(r"^(goal|tie|reads|lts)$|^Need-|^(loop|returns|overflow)([-_]|$)")
@@ -68,7 +73,8 @@ def declared(path, text):
                 continue
             found = DECLARED.match(line)
         else:
-            found = NESTED.match(line) or (inside and re.match(r"^  (?! )", line) and DECLARED.match(line))
+            field = inside and re.match(r"^  (?! )", line)
+            found = NESTED.match(line) or (field and DECLARED.match(line))
         if found:
             yield found.group(1), found.group(2)
 
@@ -95,7 +101,8 @@ def taken_from_outside(texts):
     out = set()
     for text in texts.values():
         for module, names in re.findall(r"use ([\w.'·+-]+)\.\{([^}]*)\}", text):
-            if not re.match(r"Rattle\.\w+\.(specs|proofs)", module) or module.startswith("Rattle.std"):
+            ours = re.match(r"Rattle\.(?!std\.)\w+\.(specs|proofs)", module)
+            if not ours:
                 out |= {n.split(" as ")[0].strip() for n in names.split(",")}
     return out
 
@@ -113,8 +120,8 @@ def names_of(texts):
     tokens = set()
     for text in texts.values():
         tokens |= set(TOKEN.findall(re.sub(r"--.*", "", text)))
-    humps = {t for t in tokens if t[:1].islower() and HUMP.search(t) and "_" not in t and "-" not in t
-             and t not in outside and re.match(r"^[\w']+$", t)}
+    humps = {t for t in tokens if t[:1].islower() and HUMP.search(t) and "_" not in t
+             and "-" not in t and t not in outside and re.match(r"^[\w']+$", t)}
     wanted = {n for n in every | humps if snake(n) != n and n not in outside and not MADE.search(n)}
     became, spelled = {}, collections.defaultdict(set)
     for name in sorted(wanted, key=lambda n: (n not in definitions, n not in humps, n)):
@@ -133,7 +140,8 @@ def respelled(text, became):
 def in_antt(text, became):
     out = []
     for line in text.split("\n"):
-        code, dashes, comment = line.partition("--") if re.search(r"(^|\s)--(\s|$)", line) else (line, "", "")
+        has_comment = re.search(r"(^|\s)--(\s|$)", line)
+        code, dashes, comment = line.partition("--") if has_comment else (line, "", "")
         comment = re.sub(r"`[^`]*`", lambda m: respelled_quote(m.group(0), became), comment)
         out.append(respelled(code, became) + dashes + comment)
     return "\n".join(out)
@@ -149,7 +157,8 @@ def in_rt(text, became):
     out = []
     for line in text.split("\n"):
         parts = re.split(r'("(?:[^"\\]|\\.)*")', line)
-        parts[::2] = [re.sub(r"[A-Za-z_][\w']*", lambda m: humps.get(m.group(0), m.group(0)), p) for p in parts[::2]]
+        parts[::2] = [re.sub(r"[A-Za-z_][\w']*", lambda m: humps.get(m.group(0), m.group(0)), p)
+                      for p in parts[::2]]
         out.append("".join(parts))
     return "\n".join(out)
 

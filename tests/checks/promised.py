@@ -2,7 +2,8 @@
 """Every public function that answers is promised: its contract stands in Public.antt.
 
 That is crates/promises/specs/Public.antt. A function that answers nothing, and is lent nothing to
-write, has nothing to promise: it only prints.
+write, has nothing to promise: it only prints. An export for C is promised what the function of its
+name in `buttresk` is: its parameters, result and clauses stand there word for word.
 """
 
 import re
@@ -12,28 +13,36 @@ from pathlib import Path
 CRATES = Path(__file__).resolve().parent.parent.parent / "crates"
 FUNCTION = re.compile(r"^( *)pub (?:extern \"C\" )?fn (\w+)", re.M)
 PROMISED = re.compile(r"^  pub \S+ :\s+(?:Gives|Promised) M .*?(\S+)\.clauses\b", re.M | re.S)
+# The crate of the exports, and the one whose functions they are.
+EXPORTS, EXPORTED = "buttresk_c", "buttresk"
 TYPE = re.compile(r"^impl(?:<[^>]*>)? (\w+)", re.M)
 
 
 def public_functions(source):
     """Names of the functions that other crates may call and that answer or write, with their type's
-    name before them."""
+    name before them, and what stands between name and body."""
     for found in FUNCTION.finditer(source):
         body = source.index("{\n", source.index(")", found.end()))
         signature = source[found.end():body]
         if "ensures" not in signature and "->" not in signature and "&mut" not in signature:
             continue
         types = [t for t in TYPE.finditer(source) if t.start() < found.start()]
-        yield f"{types[-1][1]}.{found[2]}" if found[1] else found[2]
+        yield f"{types[-1][1]}.{found[2]}" if found[1] else found[2], signature
 
 
 def main():
     promised = PROMISED.findall((CRATES / "promises/specs/Public.antt").read_text())
-    missing, count = [], 0
+    missing, count, exported = [], 0, {}
+    for file in sorted(CRATES.glob(f"{EXPORTED}/src/*.rt")):
+        exported |= dict(public_functions(file.read_text()))
     for file in sorted(CRATES.glob("*/src/*.rt")):
         crate = file.parts[-3]
-        for name in public_functions(file.read_text()):
+        for name, signature in public_functions(file.read_text()):
             count += 1
+            if crate == EXPORTS:
+                if exported.get(name, "").split() != signature.split():
+                    missing.append(f"{crate}.{name}")
+                continue
             path = name if crate == "sections" and "." in name else f"{crate}.{name}"
             if path not in promised:
                 missing.append(path)
