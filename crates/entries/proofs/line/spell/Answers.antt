@@ -1,55 +1,34 @@
 -- `spell` meets its contract: there is room for each piece, and all of them are the line.
-use Prim.Native.Nat.{◌≤◌}
+use Prim.Native.Nat.{ℕ, ◌+◌, ◌≤◌, ◌<◌}
 use native.Mathlib.Omega.{arith}
+use mathlib.Core.List.{List, ◌∷◌}
 use borrow.Author.Rules.{rules}
+use Rattle.entries.specs.Decimal.{decimal}
+use Rattle.entries.specs.Entries.{colon}
+use Rattle.entries.specs.Put.{PutBefore}
 use Rattle.entries.proofs.Put.{number_field_room}
 use Rattle.entries.proofs.InTurn.{put_in_turn}
 use Rattle.entries.proofs.line.spell.Goals as goal
 
--- what is left before the discipline
-discipline_room : (p : lts.After-put-number-field
-    (octet.Asked, octet.Learnt, time.Asked, time.Learnt, field.Asked, field.Learnt, number.Asked, number.Learnt) reads.Pre reads.Post)
-    → (62 ≤ p.put-number-field.result) × (p.put-number-field.result ≤ 97)
-discipline_room p =
-    let known = p.before in
-    let discipline = p.put-number-field.ensures.1 in
-    let category = known.before.before.before in
-    let number = category.before.before.before in
-    let time = number.before.before.before in
-    let surface = time.before.before.before in (
-      omega (
-        arith,
-        surface.put-octet-field.ensures.0,
-        time.put-time-fields.ensures.0,
-        number.put-octet-field2.ensures.0,
-        category.put-octet-field3.ensures.0,
-        number_field_room 2 (omega (arith, known.struct_known.given)) (omega (arith, known.struct_known.given)) discipline,
-      ),
-      omega (
-        arith,
-        surface.put-octet-field.ensures.1.starts,
-        time.put-time-fields.ensures.1.starts,
-        number.put-octet-field2.ensures.1.starts,
-        category.put-octet-field3.ensures.1.starts,
-        discipline.starts,
-      ),
-    )
+-- what the octet of the discipline takes
+discipline_room : {end n start : ℕ} {dest exit : List ℕ} → n < 256
+    → PutBefore end (colon ∷ decimal n) dest start exit → end ≤ start + 4
+discipline_room small put = number_field_room 2 (omega arith) (omega arith) put
 
 pub put_number_field-at-requires-2 : goal.put_number_field-at-requires-2
-put_number_field-at-requires-2 c = let room = discipline_room c.before.before in (omega arith, search rules)
+put_number_field-at-requires-2 c =
+    let discipline = discipline_room (omega arith) c.put_number_field-at.ensures.text in
+    (omega arith, search rules)
 
 pub put_number_field-at-requires-3 : goal.put_number_field-at-requires-3
 put_number_field-at-requires-3 c =
-    let room = discipline_room offset.before.before.before in
-    let put = c.put_number_field-at-2.ensures in
-    (omega (arith, put.0), omega (arith, put.1.starts))
+    let discipline = discipline_room (omega arith) c.put_number_field-at.ensures.text in
+    (omega arith, search rules)
 
 pub put_number-start-requires : goal.put_number-start-requires
 put_number-start-requires c =
-    let room = discipline_room offset.before.before.before in
-    let put = c.put_number_field-at-2.ensures in
-    let put' = c.put_number_field-at-3.ensures in
-    (omega (arith, put.0, put'.0), omega (arith, put.1.starts, put'.1.starts))
+    let discipline = discipline_room (omega arith) c.put_number_field-at.ensures.text in
+    (omega arith, search rules)
 
 pub returns : goal.returns
 returns c =
