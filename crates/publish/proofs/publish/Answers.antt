@@ -8,16 +8,14 @@ use Rattle.publish.proofs.publish.Goals as goal
 pub returns-then-file-gt-MOST_OCTETS : goal.returns-then-file-gt-MOST_OCTETS
 returns-then-file-gt-MOST_OCTETS c =
     let args = c.args in
-
-    let whole = rw (too_long args.file.now args.dest.now c.if-file-gt-MOST_OCTETS.true) (refl, refl) in
-    record { answer = whole.0; dest = whole.1 }
+    let e = too_long args.file.now args.dest.now c.if-file-gt-MOST_OCTETS.true in
+    record { answer = rw e; dest = rw e }
 
 pub returns-then-dest-file : goal.returns-then-dest-file
 returns-then-dest-file c =
     let args = c.args in
-
-    let whole = rw (too_short args.file.now args.dest.now c.if-file-gt-MOST_OCTETS.false c.if-dest-file.true) (refl, refl) in
-    record { answer = whole.0; dest = whole.1 }
+    let e = too_short args.file.now args.dest.now c.if-file-gt-MOST_OCTETS.false c.if-dest-file.true in
+    record { answer = rw e; dest = rw e }
 
 pub put_copy-requires : goal.put_copy-requires
 put_copy-requires c = (c.if-file-gt-MOST_OCTETS.false, sym c.outcome_of-outcome.ensures ∙ c.in-Clean.is, c.if-dest-file.false)
@@ -27,15 +25,13 @@ unfolding by_outcome
 returns-in-Refused c =
     let args = c.args in
     let ends = sym c.outcome_of-outcome.ensures ∙ c.in-Refused.is in
-
-    let whole = rw (by_walk args.file.now args.dest.now c.if-file-gt-MOST_OCTETS.false c.if-dest-file.false ends) (refl, refl) in
-    record { answer = whole.0; dest = whole.1 }
+    let e = by_walk args.file.now args.dest.now c.if-file-gt-MOST_OCTETS.false c.if-dest-file.false ends in
+    record { answer = rw e; dest = rw e }
 
 pub returns-in-Clean : goal.returns-in-Clean
 unfolding by_outcome
 returns-in-Clean c =
     let args = c.args in
     let ends = sym c.outcome_of-outcome.ensures ∙ c.in-Clean.is in
-
-    let whole = rw (by_walk args.file.now args.dest.now c.if-file-gt-MOST_OCTETS.false c.if-dest-file.false ends) (refl, c.put_copy.ensures) in
-    record { answer = whole.0; dest = whole.1 }
+    let e = by_walk args.file.now args.dest.now c.if-file-gt-MOST_OCTETS.false c.if-dest-file.false ends in
+    record { answer = rw e; dest = rw e c.put_copy.ensures }

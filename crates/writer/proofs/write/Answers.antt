@@ -5,8 +5,6 @@ use native.Mathlib.Nat.{zero-add}
 use mathlib.Core.Path.{◌≡◌, refl, sym, ap, ◌∙◌}
 use mathlib.Core.List.{List, [], ◌∷◌, ◌++◌}
 use lib.ListN.{length, drop}
-use denote.Enum.Declared.{tag_of}
-use types.Run.{OneOf, miss}
 use borrow.Author.Rules.{rules}
 use Rattle.writer.specs.Plan.{parts_of, total_of, judged_plan}
 use Rattle.writer.specs.Message.{indicator_octets, body_octets, message_octets}
@@ -17,21 +15,16 @@ use Rattle.writer.specs.declared.Written.TheVariants.{Whole, TooManySections, No
 use Rattle.writer.proofs.Checks.{Accepted, accepted, all_sound}
 use Rattle.writer.proofs.Stored.{put_length, put_then}
 use Rattle.writer.proofs.Lengths.{length_indicator, length_message}
-use Rattle.writer.specs.contracts.Written.{the_type}
 use Rattle.writer.proofs.write.Goals as goal
 
--- the tags of the refusals
-abbrev refusals : List ℕ
-refusals = 1 ∷ 2 ∷ 3 ∷ 4 ∷ 5 ∷ []
-
-unchanged : (w : Written) (octets dest : List ℕ) → OneOf refusals (tag_of the_type w) → dest ≡ dest_of w octets dest
+unchanged : (w : Written) (octets dest : List ℕ) → ((total : ℕ) → w ≡ Whole total → ⊥) → dest ≡ dest_of w octets dest
 unfolding dest_of
-unchanged (Whole total) octets dest told = absurd (miss refusals 0 tt told)
-unchanged TooManySections octets dest told = refl
-unchanged (NotOneMessage at) octets dest told = refl
-unchanged (OutsideStore at) octets dest told = refl
-unchanged (PayloadSize at) octets dest told = refl
-unchanged NoRoom octets dest told = refl
+unchanged (Whole total) octets dest other = absurd (other total refl)
+unchanged TooManySections octets dest other = refl
+unchanged (NotOneMessage at) octets dest other = refl
+unchanged (OutsideStore at) octets dest other = refl
+unchanged (PayloadSize at) octets dest other = refl
+unchanged NoRoom octets dest other = refl
 
 -- octets put at the start stand before what is left of the destination
 in_front : (dest octets : List ℕ) (n : ℕ) → length octets ≡ n → written_at dest 0 octets ≡ octets ++ drop n dest
@@ -42,12 +35,13 @@ module _ (discipline reserved₁ reserved₂ : ℕ) (plan store dest : List ℕ)
   abbrev wrote : Wrote
   wrote = write_of discipline reserved₁ reserved₂ plan store dest
 
-  refused : (w : Written) → w ≡ judged_plan (parts_of plan) (length store) (length dest) → OneOf refusals (tag_of the_type w)
+  refused : (w : Written) → w ≡ judged_plan (parts_of plan) (length store) (length dest)
+      → ((total : ℕ) → w ≡ Whole total → ⊥)
       → (w ≡ wrote.answer) × (dest ≡ wrote.dest)
   unfolding write_of
-  refused w e told =
+  refused w e other =
       let octets = message_octets discipline reserved₁ reserved₂ (parts_of plan) store in
-      (e, unchanged w octets dest told ∙ ap (λ (v : Written). dest_of v octets dest) e)
+      (e, unchanged w octets dest other ∙ ap (λ (v : Written). dest_of v octets dest) e)
 
   module _ (total : ℕ) (e : judged_plan (parts_of plan) (length store) (length dest) ≡ Whole total) where
     has : Accepted (parts_of plan) (length store) (length dest) total
@@ -82,15 +76,14 @@ module _ (discipline reserved₁ reserved₂ : ℕ) (plan store dest : List ℕ)
 pub returns-in_default : goal.returns-in_default
 returns-in_default c =
     let a = c.args in
-
-    let whole = refused _ _ _ a.plan.now a.store.now a.dest.now c.judge_plan-answer.result c.judge_plan-answer.ensures
-    c.in-Whole.keys2 in
-    record { answer = whole.0; dest = whole.1 }
+    let all = refused _ _ _ a.plan.now a.store.now a.dest.now c.judge_plan-answer.result c.judge_plan-answer.ensures
+    c.in_default.not-Whole in
+    record { answer = all.0; dest = all.1 }
 
 pub put_indicator-requires : goal.put_indicator-requires
 put_indicator-requires c =
     let a = c.args in
-    room_16 a.discipline a.reserved-1 a.reserved-2 a.plan.now a.store.now a.dest.now _
+    room_16 a.discipline a.reserved_1 a.reserved_2 a.plan.now a.store.now a.dest.now _
     (sym c.judge_plan-answer.ensures ∙ c.in-Whole.is)
 
 pub put_sections-requires : goal.put_sections-requires
@@ -103,6 +96,6 @@ pub returns : goal.returns
 returns c =
     let a = c.args in
 
-    let whole = whole _ _ _ a.plan.now a.store.now a.dest.now _ (sym c.judge_plan-answer.ensures ∙ c.in-Whole.is)
+    let all = whole _ _ _ a.plan.now a.store.now a.dest.now _ (sym c.judge_plan-answer.ensures ∙ c.in-Whole.is)
     _ c.put_indicator.ensures _ c.put_sections.ensures in
-    record { answer = whole.0; dest = whole.1 }
+    record { answer = all.0; dest = all.1 }
