@@ -7,8 +7,6 @@ use native.Mathlib.Nat.{add-zero}
 use lib.ListN.{length, take, drop, length-append, take-append-drop}
 use borrow.Author.Tests.{eq-eqb, ne_eqb}
 use Rattle.octets.specs.Words.{Not}
-use types.Run.{OneOf, miss}
-use denote.Enum.Declared.{tag_of}
 use Rattle.framing.specs.declared.read.Section.{Section}
 use Rattle.framing.specs.declared.read.Cursor.{Cursor}
 use Rattle.framing.specs.declared.read.Offset.{Offset}
@@ -38,7 +36,6 @@ use Rattle.reading.specs.Reading.{reading, start, seen}
 use Rattle.reading.specs.declared.Reading.{Reading}
 use Rattle.reading.specs.declared.Seen.{Seen}
 use Rattle.reading.specs.declared.Seen.TheVariants as seen
-use Rattle.reading.specs.contracts.Seen.{the_type}
 use Rattle.reading.proofs.Moves.{passes_fits, closes_judged, closes_between}
 use Rattle.reading.proofs.Untabled as steps
 use Rattle.reading.proofs.Untabled.{told_on, Bounded, Passes, Moved, on_within, on_completing, on_closing, first_told, first_bounded}
@@ -272,15 +269,16 @@ module _ (file text₀ : List ℕ) (fits : length file ≤ most_octets) where
     by_seen_lem (seen.Unreadable fault offset) e = over ((steps.unreadable file fits k.r at.cursor k.bounded (sees e)).outcome ∙ rw k.counted)
 
     -- what is seen is no section that passes or closes
-    pub stops : (v : Seen) → seen file at ≡ v → OneOf (2 ∷ 3 ∷ 4 ∷ 5 ∷ 6 ∷ []) (tag_of the_type v)
+    pub stops : (v : Seen) → seen file at ≡ v → ((s : Section) (next : Reading) → v ≡ seen.Passes s next → ⊥)
+        → ((s : Section) (next : Reading) → v ≡ seen.Closes s next → ⊥)
         → Over (told_on file k.r at.cursor) (stopped_by v count before)
-    stops (seen.Passes s next) e other = absurd (miss (2 ∷ 3 ∷ 4 ∷ 5 ∷ 6 ∷ []) 0 tt other)
-    stops (seen.Closes s next) e other = absurd (miss (2 ∷ 3 ∷ 4 ∷ 5 ∷ 6 ∷ []) 1 tt other)
-    stops (seen.Misplaced s) e other = by_seen_lem (seen.Misplaced s) e
-    stops (seen.NoGrid s) e other = by_seen_lem (seen.NoGrid s) e
-    stops seen.Clean e other = by_seen_lem seen.Clean e
-    stops seen.InputOver e other = by_seen_lem seen.InputOver e
-    stops (seen.Unreadable fault offset) e other = by_seen_lem (seen.Unreadable fault offset) e
+    stops (seen.Passes s next) e passes closes = absurd (passes s next refl)
+    stops (seen.Closes s next) e passes closes = absurd (closes s next refl)
+    stops (seen.Misplaced s) e passes closes = by_seen_lem (seen.Misplaced s) e
+    stops (seen.NoGrid s) e passes closes = by_seen_lem (seen.NoGrid s) e
+    stops seen.Clean e passes closes = by_seen_lem seen.Clean e
+    stops seen.InputOver e passes closes = by_seen_lem seen.InputOver e
+    stops (seen.Unreadable fault offset) e passes closes = by_seen_lem (seen.Unreadable fault offset) e
 
     -- a section is passed
     module _ {s : Section} {next : Reading} {due : Due} (t : Turned file k.r at.cursor s next due) where

@@ -7,9 +7,9 @@ use Rattle.inventory.proofs.inventory.Goals as goal
 
 pub returns-then-file-gt-MOST_OCTETS : goal.returns-then-file-gt-MOST_OCTETS
 returns-then-file-gt-MOST_OCTETS c =
-    let args = c.args in 
-    let whole = too_long args.file.now args.text.now c.if-file-gt-MOST_OCTETS.true in
-    record { answer = whole.0; text = whole.1 }
+    let args = c.args in
+    let all = too_long args.file.now args.text.now c.if-file-gt-MOST_OCTETS.true in
+    record { answer = all.0; text = all.1 }
 
 -- the code's table is the list of rows
 pub put_lines-measured-requires : goal.put_lines-measured-requires
@@ -19,9 +19,8 @@ put_lines-measured-requires c = (refl, search rules)
 pub returns-then-text-octets : goal.returns-then-text-octets
 returns-then-text-octets c =
     let args = c.args in
-
-    let whole = too_small args.file.now args.text.now c.put_lines-measured.ensures c.in-Clean.is c.if-text-octets.true in
-    record { answer = whole.0; text = whole.1 }
+    let all = too_small args.file.now args.text.now c.put_lines-measured.ensures c.in-Clean.is c.if-text-octets.true in
+    record { answer = all.0; text = all.1 }
 
 pub put_lines-written-requires : goal.put_lines-written-requires
 unfolding rows
@@ -30,14 +29,12 @@ put_lines-written-requires c = (refl, search rules)
 pub returns-in-Refused : goal.returns-in-Refused
 returns-in-Refused c =
     let args = c.args in
-
-    let whole = refused args.file.now args.text.now c.put_lines-measured.ensures c.in-Refused.is in
-    record { answer = whole.0; text = whole.1 }
+    let all = refused args.file.now args.text.now c.put_lines-measured.ensures c.in-Refused.is in
+    record { answer = all.0; text = all.1 }
 
 pub returns-else-text-octets : goal.returns-else-text-octets
 returns-else-text-octets c =
     let args = c.args in
-
-    let whole = whole args.file.now args.text.now c.put_lines-measured.ensures c.in-Clean.is c.if-text-octets.false
+    let all = whole args.file.now args.text.now c.put_lines-measured.ensures c.in-Clean.is c.if-text-octets.false
     c.put_lines-written.ensures in
-    record { answer = whole.0; text = whole.1 }
+    record { answer = all.0; text = all.1 }

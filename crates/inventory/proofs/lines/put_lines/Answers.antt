@@ -226,4 +226,4 @@ returns-in_default c =
     rw c.stopped-outcome.ensures
     (ended file text c.requires.1 c.loop-section.invariant
     (stops file text c.requires.1 c.loop-section.invariant _ (sym c.look-seen.ensures)
-    c.in-Passes.keys3))
+    c.in_default.not-Passes c.in_default.not-Closes))
