@@ -7,8 +7,6 @@ use lib.ListN.{length, drop}
 use borrow.Author.Rules.{rules}
 use Rattle.lists.specs.Line.{take_digits, number_taken}
 use Rattle.lists.proofs.Places.{
-  said_no,
-  said_yes,
   digit_low,
   digit_high,
   digits_behind,
@@ -26,38 +24,38 @@ pub returns-then-octet-close : goal.returns-then-octet-close
 unfolding number_taken
 returns-then-octet-close c =
     sym (digits_closed _ _ _ _ _ c.loop-i-test.true
-    (said_no c.is_digit.ensures c.if-not-is_digit.true) c.if-octet-close.true)
+    (sym c.is_digit.ensures ∙ c.if-not-is_digit.true) c.if-octet-close.true)
     ∙ c.loop-i.invariant.1
 
 pub returns-then-not-is_digit : goal.returns-then-not-is_digit
 unfolding number_taken
 returns-then-not-is_digit c =
     sym (digits_not_closed _ _ _ _ _ c.loop-i-test.true
-    (said_no c.is_digit.ensures c.if-not-is_digit.true) c.if-octet-close.false)
+    (sym c.is_digit.ensures ∙ c.if-not-is_digit.true) c.if-octet-close.false)
     ∙ c.loop-i.invariant.1
 
 pub overflow_sub-value : goal.overflow_sub-value
-overflow_sub-value c = digit_low _ (said_yes c.is_digit.ensures c.if-not-is_digit.false)
+overflow_sub-value c = digit_low _ (sym c.is_digit.ensures ∙ c.if-not-is_digit.false)
 
 pub overflow_cast-value : goal.overflow_cast-value
-overflow_cast-value c = omega (arith, digit_high _ (said_yes c.is_digit.ensures c.if-not-is_digit.false))
+overflow_cast-value c = omega (arith, digit_high _ (sym c.is_digit.ensures ∙ c.if-not-is_digit.false))
 
 pub overflow_add-value : goal.overflow_add-value
-overflow_add-value c = omega (arith, digit_high _ (said_yes c.is_digit.ensures c.if-not-is_digit.false))
+overflow_add-value c = omega (arith, digit_high _ (sym c.is_digit.ensures ∙ c.if-not-is_digit.false))
 
 pub returns-then-most-value : goal.returns-then-most-value
 unfolding number_taken
 returns-then-most-value c =
     sym (digits_too_many _ _ _ _ _ c.loop-i-test.true
-    (said_yes c.is_digit.ensures c.if-not-is_digit.false) c.if-most-value.true)
+    (sym c.is_digit.ensures ∙ c.if-not-is_digit.false) c.if-most-value.true)
     ∙ c.loop-i.invariant.1
 
 pub loop-i-preserved : goal.loop-i-preserved
 loop-i-preserved c =
     (
-      omega (arith, c.requires.0),
+      omega (arith, c.requires.most),
       sym (digits_further _ _ _ _ _ c.loop-i-test.true
-          (said_yes c.is_digit.ensures c.if-not-is_digit.false) c.if-most-value.false)
+          (sym c.is_digit.ensures ∙ c.if-not-is_digit.false) c.if-most-value.false)
           ∙ c.loop-i.invariant.1,
     )
 

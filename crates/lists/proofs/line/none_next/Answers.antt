@@ -4,8 +4,6 @@ use native.Mathlib.Omega.{arith}
 use mathlib.Core.Path.{sym, ◌∙◌}
 use borrow.Author.Rules.{rules}
 use Rattle.lists.proofs.Places.{
-  said_no,
-  said_yes,
   inside_of,
   none_not_1,
   none_not_2,
@@ -19,7 +17,7 @@ pub returns-then-not-next_is : goal.returns-then-not-next_is
 returns-then-not-next_is c =
     let a = c.args in
     sym (none_not_1 a.close a.text.now a.at
-    (said_no c.next_is.ensures c.if-not-next_is.true))
+    (sym c.next_is.ensures ∙ c.if-not-next_is.true))
 
 pub overflow_add-at : goal.overflow_add-at
 overflow_add-at c =
@@ -27,15 +25,15 @@ overflow_add-at c =
     omega (
       arith,
       inside_of 110 a.text.now a.at
-          (said_yes c.next_is.ensures c.if-not-next_is.false),
+          (sym c.next_is.ensures ∙ c.if-not-next_is.false),
     )
 
 pub returns-then-not-next_is-2 : goal.returns-then-not-next_is-2
 returns-then-not-next_is-2 c =
     let a = c.args in
     sym (none_not_2 a.close a.text.now a.at
-    (said_yes c.next_is.ensures c.if-not-next_is.false)
-    (said_no c.next_is-2.ensures c.if-not-next_is-2.true))
+    (sym c.next_is.ensures ∙ c.if-not-next_is.false)
+    (sym c.next_is-2.ensures ∙ c.if-not-next_is-2.true))
 
 pub overflow_add-at-2 : goal.overflow_add-at-2
 overflow_add-at-2 c =
@@ -43,16 +41,16 @@ overflow_add-at-2 c =
     omega (
       arith,
       inside_of 111 a.text.now (a.at + 1)
-          (said_yes c.next_is-2.ensures c.if-not-next_is-2.false),
+          (sym c.next_is-2.ensures ∙ c.if-not-next_is-2.false),
     )
 
 pub returns-then-not-next_is-3 : goal.returns-then-not-next_is-3
 returns-then-not-next_is-3 c =
     let a = c.args in
     sym (none_not_3 a.close a.text.now a.at
-    (said_yes c.next_is.ensures c.if-not-next_is.false)
-    (said_yes c.next_is-2.ensures c.if-not-next_is-2.false)
-    (said_no c.next_is-3.ensures c.if-not-next_is-3.true))
+    (sym c.next_is.ensures ∙ c.if-not-next_is.false)
+    (sym c.next_is-2.ensures ∙ c.if-not-next_is-2.false)
+    (sym c.next_is-3.ensures ∙ c.if-not-next_is-3.true))
 
 pub overflow_add-at-3 : goal.overflow_add-at-3
 overflow_add-at-3 c =
@@ -60,17 +58,17 @@ overflow_add-at-3 c =
     omega (
       arith,
       inside_of 110 a.text.now (a.at + 2)
-          (said_yes c.next_is-3.ensures c.if-not-next_is-3.false),
+          (sym c.next_is-3.ensures ∙ c.if-not-next_is-3.false),
     )
 
 pub returns-then-not-next_is-4 : goal.returns-then-not-next_is-4
 returns-then-not-next_is-4 c =
     let a = c.args in
     sym (none_not_4 a.close a.text.now a.at
-    (said_yes c.next_is.ensures c.if-not-next_is.false)
-    (said_yes c.next_is-2.ensures c.if-not-next_is-2.false)
-    (said_yes c.next_is-3.ensures c.if-not-next_is-3.false)
-    (said_no c.next_is-4.ensures c.if-not-next_is-4.true))
+    (sym c.next_is.ensures ∙ c.if-not-next_is.false)
+    (sym c.next_is-2.ensures ∙ c.if-not-next_is-2.false)
+    (sym c.next_is-3.ensures ∙ c.if-not-next_is-3.false)
+    (sym c.next_is-4.ensures ∙ c.if-not-next_is-4.true))
 
 pub overflow_add-at-4 : goal.overflow_add-at-4
 overflow_add-at-4 c =
@@ -78,7 +76,7 @@ overflow_add-at-4 c =
     omega (
       arith,
       inside_of 101 a.text.now (a.at + 3)
-          (said_yes c.next_is-4.ensures c.if-not-next_is-4.false),
+          (sym c.next_is-4.ensures ∙ c.if-not-next_is-4.false),
     )
 
 pub returns : goal.returns
@@ -86,7 +84,7 @@ returns c =
     let a = c.args in
     c.next_is-5.ensures
     ∙ sym (none_closed a.close a.text.now a.at
-    (said_yes c.next_is.ensures c.if-not-next_is.false)
-    (said_yes c.next_is-2.ensures c.if-not-next_is-2.false)
-    (said_yes c.next_is-3.ensures c.if-not-next_is-3.false)
-    (said_yes c.next_is-4.ensures c.if-not-next_is-4.false))
+    (sym c.next_is.ensures ∙ c.if-not-next_is.false)
+    (sym c.next_is-2.ensures ∙ c.if-not-next_is-2.false)
+    (sym c.next_is-3.ensures ∙ c.if-not-next_is-3.false)
+    (sym c.next_is-4.ensures ∙ c.if-not-next_is-4.false))

@@ -4,8 +4,6 @@ use mathlib.Core.Path.{sym, ◌∙◌}
 use borrow.Author.Rules.{rules}
 use Rattle.lists.specs.Line.{number_taken}
 use Rattle.lists.proofs.Places.{
-  said_no,
-  said_yes,
   digit_low,
   digit_high,
   number_behind,
@@ -36,24 +34,23 @@ pub returns-then-not-is_digit : goal.returns-then-not-is_digit
 unfolding number_taken
 returns-then-not-is_digit c =
     sym (number_no_digit _ _ _ _ c.if-text-at.false c.if-first-eq48.false
-    (said_no c.is_digit.ensures c.if-not-is_digit.true))
+    (sym c.is_digit.ensures ∙ c.if-not-is_digit.true))
 
 pub overflow_sub-first : goal.overflow_sub-first
-overflow_sub-first c = digit_low _ (said_yes c.is_digit.ensures c.if-not-is_digit.false)
+overflow_sub-first c = digit_low _ (sym c.is_digit.ensures ∙ c.if-not-is_digit.false)
 
 pub overflow_cast-first : goal.overflow_cast-first
-overflow_cast-first c = omega (arith, digit_high _ (said_yes c.is_digit.ensures c.if-not-is_digit.false))
+overflow_cast-first c = omega (arith, digit_high _ (sym c.is_digit.ensures ∙ c.if-not-is_digit.false))
 
 pub digits_at-requires : goal.digits_at-requires
 digits_at-requires c =
-    let whole = (
-      search rules,
-      omega (arith, digit_high _ (said_yes c.is_digit.ensures c.if-not-is_digit.false)),
-    ) in
-    record { most = whole.0; first = whole.1 }
+    record {
+      most = search rules;
+      first = omega (arith, digit_high _ (sym c.is_digit.ensures ∙ c.if-not-is_digit.false));
+    }
 
 pub returns : goal.returns
 returns c =
     c.digits_at.ensures
     ∙ sym (number_digits _ _ _ _ c.if-text-at.false c.if-first-eq48.false
-    (said_yes c.is_digit.ensures c.if-not-is_digit.false))
+    (sym c.is_digit.ensures ∙ c.if-not-is_digit.false))
