@@ -2,6 +2,8 @@
 // A.
 #![tactic(auto)]
 
-fn main() {
-    replaying::print_index();
+use std::io;
+
+fn main(rt: HostRuntime) -> io::Result<()> {
+    replaying::print_index(&rt)
 }

@@ -1,6 +1,8 @@
 // As gribwalk. Its stored input: sample A, and a message that ends in a refusal.
 #![tactic(auto)]
 
-fn main() {
-    replaying::print_index();
+use std::io;
+
+fn main(rt: HostRuntime) -> io::Result<()> {
+    replaying::print_index(&rt)
 }

@@ -3,6 +3,8 @@
 // decoded, and public copies.
 #![tactic(auto)]
 
-fn main() {
-    replaying::answer_requests();
+use std::io;
+
+fn main(rt: HostRuntime) -> io::Result<()> {
+    replaying::answer_requests(&rt)
 }

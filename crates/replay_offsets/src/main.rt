@@ -1,6 +1,8 @@
 // `replay` over the stored list of the templates' offsets.
 #![tactic(auto)]
 
-fn main() {
-    replaying::answer_requests();
+use std::io;
+
+fn main(rt: HostRuntime) -> io::Result<()> {
+    replaying::answer_requests(&rt)
 }

@@ -2,6 +2,8 @@
 // the input cuts the last request.
 #![tactic(auto)]
 
-fn main() {
-    replaying::answer_requests();
+use std::io;
+
+fn main(rt: HostRuntime) -> io::Result<()> {
+    replaying::answer_requests(&rt)
 }

@@ -1,28 +1,31 @@
 // `gribwalk`: the index of the file on standard input, as text (document 01, "Sample files").
 use crate::answers::answer_long;
 use crate::desk::{Desk, LINES, empty_table, walk_at_desk};
-use crate::input::{MOST_WALKED, empty_room};
+use crate::input::{MOST_WALKED, empty_room, read_full};
 use crate::walk_lines::{counts, end, submessages};
-use libc::STDIN_FILENO;
+use std::io;
+use std::io::{BufWriter, Write};
 
-// Walks standard input and prints the index. To its caller it answers nothing, so it has no
-// `ensures`. A read that fails counts as the input's end.
-pub fn print_index() {
+// Walks standard input and prints the index. To its caller it answers nothing but an error of
+// reading, of writing, or of memory for what is held to be written, so it has no `ensures`.
+pub fn print_index(rt: &(impl Input + Print + Alloc)) -> io::Result<()> {
     let mut room = empty_room();
-    let size = io::read_full(STDIN_FILENO, &mut room);
+    let size = read_full(&mut rt.reader(), &mut room)?;
+    let mut out = BufWriter::new(rt.alloc(), io::writer(rt))?;
     if MOST_WALKED < size {
-        answer_long();
-        return;
+        answer_long(&mut out)?;
+        return out.flush();
     }
     let mut rows = empty_table();
-    show(walk_at_desk(&room[..size], &mut rows, LINES));
+    show(&mut out, walk_at_desk(&room[..size], &mut rows, LINES))?;
+    out.flush()
 }
 
-fn show(desk: Desk) {
+fn show(out: &mut impl io::Write, desk: Desk) -> io::Result<()> {
     let answer = desk.answer;
     let lines = desk.lines;
     let how = answer.outcome;
-    counts(answer);
-    submessages(b"", lines, answer.submessages);
-    end(how);
+    counts(out, answer)?;
+    submessages(out, b"", lines, answer.submessages)?;
+    end(out, how)
 }

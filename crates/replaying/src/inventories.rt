@@ -3,17 +3,18 @@ ghost use Rattle.std.specs.Prelude.{◌≤◌};
 
 use crate::stores::{store_lines, unwritten};
 use inventory::{inventory, inventory_end};
+use std::io;
 
 // Writes the inventory of a file into a text buffer of so many octets.
-pub(crate) fn answer_inventory(file: &[u8], room: u32)
+pub(crate) fn answer_inventory(out: &mut impl io::Write, file: &[u8], room: u32) -> io::Result<()>
     requires { room ≤ 262144 }
 {
     let mut text = unwritten();
     let n = room as usize;
-    inventory_into(file, &mut text[..n]);
+    inventory_into(out, file, &mut text[..n])
 }
 
-fn inventory_into(file: &[u8], text: &mut [u8]) {
+fn inventory_into(out: &mut impl io::Write, file: &[u8], text: &mut [u8]) -> io::Result<()> {
     let answer = inventory(file, &mut *text);
-    store_lines(b"inventory", inventory_end(answer), &*text);
+    store_lines(out, b"inventory", inventory_end(answer), &*text)
 }

@@ -1,12 +1,13 @@
 // The answers of a pull reader, a line for each call (docs/REPLAY.md, kind `P`). It is asked by
 // `pull_at`, which the reader's own `next` is proved equal to (the contract of `next`, in crate
 // `pull`).
-ghost use Rattle.std.specs.Prelude.{◌≡◌, true, ◌<◌};
+ghost use Rattle.std.specs.Prelude.{◌≡◌, true, ◌<◌, IfOk};
 
 use crate::printing::{line_end, outcome, text};
 use crate::walk_lines::section_line;
 use index::{Listed, Outcome};
 use pull::{Pulled, first, pull_at};
+use std::io;
 
 // Of a file of so many octets fewer sections are passed; then come a refusal at the most, and two
 // ends.
@@ -22,15 +23,16 @@ pub(crate) struct Telling {
 }
 
 // Pulls until the second end.
-pub(crate) fn answer_pull(file: &[u8]) {
+pub(crate) fn answer_pull(out: &mut impl io::Write, file: &[u8]) -> io::Result<()> {
     let mut t = untold(file);
     let mut progress = first(file);
     while t.going {
         let pull = pull_at(file, progress);
         let answer = pull.answer;
         progress = pull.next;
-        t = tell(answer, t);
+        t = tell(out, answer, t)?;
     }
+    Ok(())
 }
 
 // Before the first call.
@@ -43,31 +45,31 @@ fn untold(file: &[u8]) -> Telling {
 }
 
 // Prints what one call handed out.
-fn tell(p: Pulled, t: Telling) -> Telling
-    ensures { result.going ≡ true → result.left < t.left }
+fn tell(out: &mut impl io::Write, p: Pulled, t: Telling) -> io::Result<Telling>
+    ensures { IfOk result (λ r. r.going ≡ true → r.left < t.left) }
 {
     match p {
         Pulled::Passed(listed) => {
-            passed(listed);
-            told(t, t.ended)
+            passed(out, listed)?;
+            Ok(told(t, t.ended))
         }
         Pulled::Refused(why, place, offset) => {
-            text(b"refused");
-            outcome(Outcome::Refused(why, place, offset));
-            line_end();
-            told(t, t.ended)
+            text(out, b"refused")?;
+            outcome(out, Outcome::Refused(why, place, offset))?;
+            line_end(out)?;
+            Ok(told(t, t.ended))
         }
         Pulled::Ended => {
-            text(b"ended\n");
-            told_end(t)
+            text(out, b"ended\n")?;
+            Ok(told_end(t))
         }
     }
 }
 
-fn passed(listed: Listed) {
+fn passed(out: &mut impl io::Write, listed: Listed) -> io::Result<()> {
     let section = listed.section;
     let offset = section.offset;
-    section_line(b"passed", section.number, offset.0, section.length);
+    section_line(out, b"passed", section.number, offset.0, section.length)
 }
 
 // One call less, with the ends told so far.

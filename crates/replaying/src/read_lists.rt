@@ -6,6 +6,7 @@ use crate::printing::{end_fields, field, line_end, no_field, text};
 use crate::tables::{fill, numbers_untouched, untouched_line};
 use crate::walk_lines::at_most;
 use lists::{list_end, read_list};
+use std::io;
 
 // Numbers of an entry: message, submessage, offset, discipline; and for category, number, time (its
 // unit and itself) and surface, before what each says, whether there is one.
@@ -15,12 +16,12 @@ const ENTRY: usize = 13;
 const NUMBERS: usize = 512 * ENTRY;
 
 // Reads a list with room for so many entries lent.
-pub(crate) fn answer_list(list: &[u8], room: u16)
+pub(crate) fn answer_list(out: &mut impl io::Write, list: &[u8], room: u16) -> io::Result<()>
     requires { room ≤ 512 }
 {
     let mut table = empty_entries();
     let n = room as usize * ENTRY;
-    read_with(list, &mut table[..n]);
+    read_with(out, list, &mut table[..n])
 }
 
 // Zeros. That there are `NUMBERS` is all that lending a part of them asks.
@@ -31,52 +32,53 @@ fn empty_entries() -> [u64; NUMBERS]
 }
 
 // The entries are the table's, as far as it goes.
-fn read_with(list: &[u8], table: &mut [u64]) {
+fn read_with(out: &mut impl io::Write, list: &[u8], table: &mut [u64]) -> io::Result<()> {
     fill(&mut *table);
     let answer = read_list(list, &mut *table);
     let end = answer.end;
     let told = at_most(answer.entries, table.len() / ENTRY);
-    text(b"list");
-    end_fields(list_end(end));
-    field(answer.entries);
-    line_end();
-    entry_lines(&*table, told);
-    untouched_line(numbers_untouched(&*table, told * ENTRY));
+    text(out, b"list")?;
+    end_fields(out, list_end(end))?;
+    field(out, answer.entries)?;
+    line_end(out)?;
+    entry_lines(out, &*table, told)?;
+    untouched_line(out, numbers_untouched(&*table, told * ENTRY))
 }
 
-fn entry_lines(table: &[u64], count: usize)
+fn entry_lines(out: &mut impl io::Write, table: &[u64], count: usize) -> io::Result<()>
     requires { count * 13 ≤ length table.now }
 {
     let mut entry: usize = 0;
     while entry < count {
         let from = entry * ENTRY;
-        entry_line(&table[from..from + ENTRY]);
+        entry_line(out, &table[from..from + ENTRY])?;
         entry += 1;
     }
+    Ok(())
 }
 
 // The nine fields of an entry's thirteen numbers.
-fn entry_line(entry: &[u64])
+fn entry_line(out: &mut impl io::Write, entry: &[u64]) -> io::Result<()>
     requires { length entry.now ≡ 13 }
 {
-    text(b"entry");
-    field(entry[0]);
-    field(entry[1]);
-    field(entry[2]);
-    field(entry[3]);
-    known_field(entry[4], entry[5]);
-    known_field(entry[6], entry[7]);
-    known_field(entry[8], entry[9]);
-    known_field(entry[8], entry[10]);
-    known_field(entry[11], entry[12]);
-    line_end();
+    text(out, b"entry")?;
+    field(out, entry[0])?;
+    field(out, entry[1])?;
+    field(out, entry[2])?;
+    field(out, entry[3])?;
+    known_field(out, entry[4], entry[5])?;
+    known_field(out, entry[6], entry[7])?;
+    known_field(out, entry[8], entry[9])?;
+    known_field(out, entry[8], entry[10])?;
+    known_field(out, entry[11], entry[12])?;
+    line_end(out)
 }
 
 // A field behind the number that says whether there is one.
-fn known_field(known: u64, number: u64) {
+fn known_field(out: &mut impl io::Write, known: u64, number: u64) -> io::Result<()> {
     if known == 0 {
-        no_field();
+        no_field(out)
     } else {
-        field(number);
+        field(out, number)
     }
 }

@@ -5,6 +5,7 @@ ghost use Rattle.std.specs.Prelude.{◌≡◌, true};
 ghost use Rattle.replaying.specs.Before.{number_before, NumbersBefore};
 
 use crate::printing::text;
+use std::io;
 
 // Number i of a table before the call.
 fn number_before(i: usize) -> u64
@@ -39,10 +40,10 @@ pub(crate) fn numbers_untouched(table: &[u64], from: usize) -> bool
     true
 }
 
-pub(crate) fn untouched_line(untouched: bool) {
+pub(crate) fn untouched_line(out: &mut impl io::Write, untouched: bool) -> io::Result<()> {
     if untouched {
-        text(b"untouched yes\n");
+        text(out, b"untouched yes\n")
     } else {
-        text(b"untouched no\n");
+        text(out, b"untouched no\n")
     }
 }

@@ -4,47 +4,65 @@ ghost use Rattle.std.specs.Prelude.{◌≡◌, ◌≤◌, min};
 use crate::desk::LINES;
 use crate::printing::{decimal, field, line_end, outcome, text};
 use index::{Line, LocalUsePlace, MessageEnd, Outcome};
+use std::io;
 use walk::Answer;
 
 // The counts, on a line's rest.
-pub(crate) fn counts(answer: Answer) {
-    text(b"sections ");
-    decimal(answer.sections);
-    text(b" submessages ");
-    decimal(answer.submessages);
-    text(b" messages ");
-    decimal(answer.messages);
-    line_end();
+pub(crate) fn counts(out: &mut impl io::Write, answer: Answer) -> io::Result<()> {
+    text(out, b"sections ")?;
+    decimal(out, answer.sections)?;
+    text(out, b" submessages ")?;
+    decimal(out, answer.submessages)?;
+    text(out, b" messages ")?;
+    decimal(out, answer.messages)?;
+    line_end(out)
 }
 
 // The first lines of a desk, as many as it has at the most, each behind what its line begins with.
-pub(crate) fn submessages(head: &[u8], lines: [Line; LINES], count: u64) {
-    first_lines(head, lines, at_most(count, LINES));
+pub(crate) fn submessages(
+    out: &mut impl io::Write,
+    head: &[u8],
+    lines: [Line; LINES],
+    count: u64,
+) -> io::Result<()> {
+    first_lines(out, head, lines, at_most(count, LINES))
 }
 
-fn first_lines(head: &[u8], lines: [Line; LINES], count: usize)
+fn first_lines(
+    out: &mut impl io::Write,
+    head: &[u8],
+    lines: [Line; LINES],
+    count: usize,
+) -> io::Result<()>
     requires { count ≤ 512 }
 {
     let mut i: usize = 0;
     while i < count {
-        text(head);
-        submessage(lines[i]);
+        text(out, head)?;
+        submessage(out, lines[i])?;
         i += 1;
     }
+    Ok(())
 }
 
 // A section's number, offset and length.
-pub(crate) fn section_line(head: &[u8], number: u64, offset: u64, octets: u64) {
-    text(head);
-    field(number);
-    field(offset);
-    field(octets);
-    line_end();
+pub(crate) fn section_line(
+    out: &mut impl io::Write,
+    head: &[u8],
+    number: u64,
+    offset: u64,
+    octets: u64,
+) -> io::Result<()> {
+    text(out, head)?;
+    field(out, number)?;
+    field(out, offset)?;
+    field(out, octets)?;
+    line_end(out)
 }
 
 // Message and submessage number, then the nine places, with `-` for no section 2 and `open` for a
 // message that goes on; its octet offset and total length.
-fn submessage(line: Line) {
+fn submessage(out: &mut impl io::Write, line: Line) -> io::Result<()> {
     let indicator = line.indicator;
     let identification = line.identification;
     let local = line.local;
@@ -56,42 +74,42 @@ fn submessage(line: Line) {
     let end = line.end;
     let span = line.span;
     let offset = span.offset;
-    decimal(line.message);
-    text(b".");
-    decimal(line.submessage);
-    field(indicator.0);
-    field(identification.0);
-    local_use(local);
-    field(grid.0);
-    field(product.0);
-    field(representation.0);
-    field(bitmap.0);
-    field(values.0);
-    message_end(end);
-    field(offset.0);
-    field(span.total);
-    line_end();
+    decimal(out, line.message)?;
+    text(out, b".")?;
+    decimal(out, line.submessage)?;
+    field(out, indicator.0)?;
+    field(out, identification.0)?;
+    local_use(out, local)?;
+    field(out, grid.0)?;
+    field(out, product.0)?;
+    field(out, representation.0)?;
+    field(out, bitmap.0)?;
+    field(out, values.0)?;
+    message_end(out, end)?;
+    field(out, offset.0)?;
+    field(out, span.total)?;
+    line_end(out)
 }
 
-fn local_use(local: LocalUsePlace) {
+fn local_use(out: &mut impl io::Write, local: LocalUsePlace) -> io::Result<()> {
     match local {
-        LocalUsePlace::At(place) => field(place.0),
-        LocalUsePlace::Absent => text(b" -"),
+        LocalUsePlace::At(place) => field(out, place.0),
+        LocalUsePlace::Absent => text(out, b" -"),
     }
 }
 
-fn message_end(end: MessageEnd) {
+fn message_end(out: &mut impl io::Write, end: MessageEnd) -> io::Result<()> {
     match end {
-        MessageEnd::GoesOn => text(b" open"),
-        MessageEnd::ClosedAt(place) => field(place.0),
+        MessageEnd::GoesOn => text(out, b" open"),
+        MessageEnd::ClosedAt(place) => field(out, place.0),
     }
 }
 
 // How a walk ended.
-pub(crate) fn end(how: Outcome) {
-    text(b"end");
-    outcome(how);
-    line_end();
+pub(crate) fn end(out: &mut impl io::Write, how: Outcome) -> io::Result<()> {
+    text(out, b"end")?;
+    outcome(out, how)?;
+    line_end(out)
 }
 
 // A count, as far as a table goes: whatever an answer says, no index is past the table's end.
