@@ -73,6 +73,7 @@ fn two_digits(octet: u8) -> [u8; 2]
 }
 
 // A number under 16 as a digit.
+#[tactic(auto, unfolding(crate::specs::Hexadecimal::digit_of))]
 fn digit(number: u8) -> u8
     requires { number < 16 }
     ensures { result ≡ digit_of number }
