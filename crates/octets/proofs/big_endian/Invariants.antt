@@ -1,13 +1,8 @@
 -- `octets::big_endian` meets its contract. The invariant: the sum is the number of the octets passed.
-use mathlib.Core.Path.{◌≡◌, refl, ap, sym, ◌∙◌}
-use Prim.Native.Nat.{ℕ, ◌≤◌, ◌-◌, ◌+◌, ◌*◌}
-use mathlib.Core.List.{List}
-use native.Mathlib.Nat.{zero-add}
-use native.Mathlib.Omega.{arith}
-use borrow.Author.Rules.{rules}
-use lib.ListN.{length, get_or}
+use mathlib.Core.Path.{◌≡◌}
+use Prim.Native.Nat.{◌≤◌, ◌-◌}
+use lib.ListN.{length}
 use Rattle.octets.specs.BigEndian.{be_at}
-use Rattle.octets.proofs.Laws.{be_more, be_lt, be_below}
 use Rattle.octets.proofs.big_endian.Given as goal
 
 abbrev pub invariant-loop-i : goal.invariant-loop-i

@@ -1,5 +1,4 @@
 -- `octets::plus` meets its contract: a size fits the positive half of an `i32`.
-use borrow.Author.Rules.{rules}
 use mir.Facts.{to_z_pos}
 use mir.Syntax.{w32}
 use Rattle.octets.proofs.plus.Goals as goal

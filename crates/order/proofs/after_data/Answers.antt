@@ -1,6 +1,5 @@
 -- `after_data` meets its contract: an 8 closes, and any other number is a submessage's start.
 use mathlib.Core.Path.{◌∙◌}
-use borrow.Author.Rules.{rules}
 use borrow.Author.Tests.{ne_eqb}
 use Rattle.order.specs.Order.{judged}
 use Rattle.order.proofs.after_data.Goals as goal

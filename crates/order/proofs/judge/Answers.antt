@@ -1,6 +1,5 @@
 -- `judge` meets its contract: between messages a section 0 alone fits, and inside one the callee says.
 use mathlib.Core.Path.{sym, ◌∙◌}
-use borrow.Author.Rules.{rules}
 use Rattle.order.specs.Order.{judged, judged_read}
 use Rattle.order.proofs.Laws.{is_between_lem}
 use Rattle.order.proofs.judge.Goals as goal

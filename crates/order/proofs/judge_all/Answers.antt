@@ -1,13 +1,11 @@
 -- `judge_all` meets its contract. The loop keeps `Kept`: what is left, judged, is the whole list judged.
 use mathlib.Core.Path.{◌≡◌, refl, sym, ◌∙◌}
 use mathlib.Core.List.{List, [], ◌∷◌}
-use mathlib.Core.Logic.{⊎_elim}
-use Prim.Native.Nat.{ℕ, ◌+◌, ◌-◌, ◌≤◌, ◌<◌}
+use Prim.Native.Nat.{ℕ, ◌+◌, ◌≤◌, ◌<◌}
 use native.Mathlib.Numerals.{add-one}
 use native.Mathlib.Omega.{arith}
 use lib.ListN.{length, drop, get_or}
 use lib.Seq.{drop-cons, drop-length}
-use borrow.Author.Rules.{rules}
 use Rattle.octets.specs.Words.{pick}
 use Rattle.order.specs.Order.{judged, is_between, then_judged, order_from, order_of}
 use Rattle.order.specs.declared.Order.{Order}
@@ -62,7 +60,7 @@ loop-i-preserved c =
     let kept = c.loop-i.invariant in
     let inside = c.loop-i-test.true in
     elim c.match-judged.branch [
-        in-Fits w ↦ rw w.order-is (fits kept inside (answer ∙ w.in-Fits.is))
+      | in-Fits w ↦ rw w.order-is (fits kept inside (answer ∙ w.in-Fits.is))
       | in-Closes w ↦ rw w.order-is (closes kept inside (answer ∙ w.in-Closes.is))
     ]
 

@@ -1,6 +1,6 @@
 -- `judge_read` meets its contract: between messages nothing is asked. Else in each arm the order is the arm's, and the answer is what the
 -- callee ensures; in the last arm a submessage starts, since a message is open.
-use mathlib.Core.Bool.{true, false, true≢false}
+use mathlib.Core.Bool.{false, true≢false}
 use mathlib.Core.Path.{◌≡◌, refl, sym, ◌∙◌}
 use Prim.Native.Nat.{ℕ}
 use Rattle.order.specs.Order.{at_submessage_start, judged, is_between, judged_read}

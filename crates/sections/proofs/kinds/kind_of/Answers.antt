@@ -4,7 +4,6 @@ use mathlib.Core.Path.{◌≡◌}
 use native.Mathlib.Omega.{arith}
 use borrow.Author.Tests.{ne_eqb}
 use Rattle.sections.specs.Kinds.{kinds, kind_of}
-use borrow.Author.Rules.{rules}
 use Rattle.sections.proofs.kinds.kind_of.Goals as goal
 
 pub returns-in-0 : goal.returns-in-0

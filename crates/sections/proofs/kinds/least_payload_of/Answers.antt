@@ -1,7 +1,6 @@
 -- `least_payload_of` meets its contract, by the cases of the kind and of its size.
 use mathlib.Core.Path.{sym, ◌∙◌}
 use Rattle.sections.specs.Kinds.{least_payload_of}
-use borrow.Author.Rules.{rules}
 use Rattle.sections.proofs.kinds.least_payload_of.Goals as goal
 
 pub returns-in_default : goal.returns-in_default

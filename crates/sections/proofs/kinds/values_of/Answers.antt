@@ -1,7 +1,6 @@
 -- `values_of` meets its contract, by the cases of the kind.
 use mathlib.Core.Path.{sym, ◌∙◌}
 use Rattle.sections.specs.Kinds.{values_of}
-use borrow.Author.Rules.{rules}
 use Rattle.sections.proofs.kinds.values_of.Goals as goal
 
 pub returns-in_default : goal.returns-in_default

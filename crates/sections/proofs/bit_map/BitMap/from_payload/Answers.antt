@@ -1,7 +1,6 @@
 -- `BitMap::from_payload` meets its contract: a payload is under the least or not.
 use borrow.Author.Tests.{lt-ltb, le-ltb}
 use Rattle.sections.specs.BitMap.{bit_map_of}
-use borrow.Author.Rules.{rules}
 use Rattle.sections.proofs.bit_map.BitMap.from_payload.Goals as goal
 
 pub returns-then-payload-lt-LEAST_PAYLOAD : goal.returns-then-payload-lt-LEAST_PAYLOAD

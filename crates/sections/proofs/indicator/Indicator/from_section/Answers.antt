@@ -2,7 +2,6 @@
 use borrow.Author.Tests.{lt-ltb, le-ltb}
 use Rattle.octets.specs.BigEndian.{be_at}
 use Rattle.sections.specs.Indicator.{indicator_of}
-use borrow.Author.Rules.{rules}
 use Rattle.sections.proofs.indicator.Indicator.from_section.Goals as goal
 
 pub returns-then-section-lt-WHOLE_SIZE : goal.returns-then-section-lt-WHOLE_SIZE

@@ -2,7 +2,6 @@
 use borrow.Author.Tests.{lt-ltb, le-ltb}
 use Rattle.octets.specs.BigEndian.{be_at}
 use Rattle.sections.specs.ReprDefinition.{repr_definition_of}
-use borrow.Author.Rules.{rules}
 use Rattle.sections.proofs.repr_definition.ReprDefinition.from_payload.Goals as goal
 
 pub returns-then-payload-lt-LEAST_PAYLOAD : goal.returns-then-payload-lt-LEAST_PAYLOAD
