@@ -3,25 +3,18 @@ use Prim.Native.Nat.{ℕ, zero, suc, ◌+◌, ◌-◌, ◌*◌, ◌≤◌, ◌<�
 use native.Mathlib.Omega.{arith}
 use native.Mathlib.Numerals.{add-one}
 use mathlib.Core.Path.{◌≡◌, sym, ap, ◌∙◌}
-use mathlib.Core.Bool.{Bool, true, false, not, false≢true, ◌&&◌}
+use mathlib.Core.Bool.{Bool, true, false, false≢true, ◌&&◌}
 use mathlib.Core.List.{List, [], ◌∷◌}
 use lib.Dec.{eqb, ltb}
 use lib.ListN.{length, get_or, drop, drop_of_length-le}
 use lib.Seq.{drop-cons, drop-drop}
-use borrow.Author.Tests.{ltb-true, ltb-false, not-true, not-false, lt-ltb, le-ltb, eq-eqb, ne_eqb}
+use borrow.Author.Tests.{ltb-true, ltb-false, lt-ltb, le-ltb, eq-eqb, ne_eqb}
 use Rattle.framing.proofs.Tests.{by_test, and_both}
 use Rattle.lists.specs.Line.{taken, not_taken, next_is, is_digit, take_digits, take_number, none_next}
 
 -- what a function's answer says, of the answer that it is
 pub answers : {A B : Type 0} (said : A → B) {r s : A} {t : B} → said r ≡ t → r ≡ s → t ≡ said s
 answers said e q = sym e ∙ ap said q
-
--- what a question's answer says where it is denied
-pub said_no : {r t : Bool} → r ≡ t → not r ≡ true → t ≡ false
-said_no {r} e denied = sym e ∙ not-true r denied
-
-pub said_yes : {r t : Bool} → r ≡ t → not r ≡ false → t ≡ true
-said_yes {r} e denied = sym e ∙ not-false r denied
 
 -- at a place inside, and behind the end
 pub drop_next : (text : List ℕ) (at : ℕ) → at < length text
