@@ -6,7 +6,6 @@ use mathlib.Core.Path.{◌≡◌, ap, ◌∙◌}
 use mathlib.Core.List.{List, [], ◌∷◌, ◌++◌, append_assoc}
 use lib.ListN.{length, take, drop, set, length-set}
 use lib.Seq.{sets, sets-eq}
-use borrow.Author.Rules.{rules}
 use Rattle.entries.specs.Put.{PutBefore}
 use Rattle.entries.proofs.line.put_none_field.Goals as goal
 

@@ -4,7 +4,6 @@ use native.Mathlib.Omega.{arith}
 use mathlib.Core.Path.{◌≡◌, sym, ap, subst, ◌∙◌}
 use mathlib.Core.List.{List, [], ◌∷◌, ◌++◌, append_assoc, append-nil}
 use lib.ListN.{length, set, length-append, length-set}
-use borrow.Author.Rules.{rules}
 use Rattle.entries.specs.Decimal.{decimal}
 use Rattle.entries.specs.Put.{RoomFor, PutBefore}
 use Rattle.entries.proofs.Decimal.{decimal_digit, decimal_more, decimal_length, decimal_spells, spelling_length}
@@ -86,5 +85,4 @@ pub returns : goal.returns
 returns c =
     let put = last c.loop-left.invariant c.loop-left-test.false in
     let small : c.args.number < 10 ^ 20 = omega arith in
-
     record { short = omega (arith, decimal_length 19 c.args.number small small, put.starts); text = put }

@@ -1,14 +1,10 @@
 -- `put_number` meets its contract. The loop keeps `Kept`: the digits that are left, before those that are put, are the number's.
-use Prim.Native.Nat.{ℕ, ◌+◌, ◌-◌, ◌≤◌, ◌<◌, ◌/◌, ◌%◌, ◌^◌}
-use native.Mathlib.Omega.{arith}
-use mathlib.Core.Path.{◌≡◌, sym, ap, subst, ◌∙◌}
-use mathlib.Core.List.{List, [], ◌∷◌, ◌++◌, append_assoc, append-nil}
-use lib.ListN.{length, set, length-append, length-set}
-use borrow.Author.Rules.{rules}
+use Prim.Native.Nat.{ℕ, ◌≤◌, ◌<◌, ◌^◌}
+use mathlib.Core.Path.{◌≡◌}
+use mathlib.Core.List.{List, ◌++◌}
+use lib.ListN.{length}
 use Rattle.entries.specs.Decimal.{decimal}
-use Rattle.entries.specs.Put.{RoomFor, PutBefore}
-use Rattle.entries.proofs.Decimal.{decimal_digit, decimal_more, decimal_length, decimal_spells, spelling_length}
-use Rattle.entries.proofs.Put.{put_nothing, put_front, same_length}
+use Rattle.entries.specs.Put.{PutBefore}
 use Rattle.entries.proofs.line.put_number.Given as goal
 
 pub record Kept (dest : List ℕ) (end number : ℕ) (d : List ℕ) (at left : ℕ) : Type 0 where

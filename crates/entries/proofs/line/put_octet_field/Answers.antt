@@ -3,7 +3,6 @@ use Prim.Native.Nat.{ℕ, ◌+◌, ◌≤◌, ◌<◌}
 use native.Mathlib.Omega.{arith}
 use mathlib.Core.Path.{◌≡◌}
 use mathlib.Core.List.{List, ◌∷◌}
-use borrow.Author.Rules.{rules}
 use Rattle.products.specs.declared.MaybeOctet.{MaybeOctet}
 use Rattle.products.specs.declared.MaybeOctet.TheVariants.{Octet, NoOctet}
 use Rattle.entries.specs.Decimal.{decimal}
@@ -25,10 +24,10 @@ module _ {octet : MaybeOctet} {end start : ℕ} {dest exit : List ℕ} where
 
 pub returns-in-Octet : goal.returns-in-Octet
 returns-in-Octet c =
-    let whole = given c.in-Octet.is (omega arith) c.put_number_field.ensures.text in
-    record { short = whole.0; text = whole.1 }
+    let both = given c.in-Octet.is (omega arith) c.put_number_field.ensures.text in
+    record { short = both.0; text = both.1 }
 
 pub returns-in-NoOctet : goal.returns-in-NoOctet
 returns-in-NoOctet c =
-    let whole = absent c.in-NoOctet.is c.put_none_field.ensures in
-    record { short = whole.0; text = whole.1 }
+    let both = absent c.in-NoOctet.is c.put_none_field.ensures in
+    record { short = both.0; text = both.1 }

@@ -33,17 +33,17 @@ module _ {time : MaybeTime} {end middle start : â„•} {dest between exit : List â
 
 pub put_number_field-requires : goal.put_number_field-requires
 put_number_field-requires c =
-    let known = c.struct_known-1.given in
-    let ten = number_field_room 9 (omega (arith, known)) (omega (arith, known)) c.put_number_field-at.ensures.text in
+    let ten = number_field_room 9 (omega arith) (omega arith) c.put_number_field-at.ensures.text in
     (omega (arith, c.requires.0), search rules)
 
 pub returns-in-Time : goal.returns-in-Time
 returns-in-Time c =
-    let whole = given c.requires.1 c.in-Time.is (omega (arith, c.struct_known-in-Time-1.given))
-    (omega (arith, c.struct_known-1.given)) c.put_number_field-at.ensures.text c.put_number_field.ensures.text in
-    record { short = whole.0; text = whole.1 }
+    let both =
+    given c.requires.1 c.in-Time.is (omega arith) (omega arith) c.put_number_field-at.ensures.text
+    c.put_number_field.ensures.text in
+    record { short = both.0; text = both.1 }
 
 pub returns-in-NoTime : goal.returns-in-NoTime
 returns-in-NoTime c =
-    let whole = absent c.requires.1 c.in-NoTime.is c.put_none_field-at.ensures c.put_none_field.ensures in
-    record { short = whole.0; text = whole.1 }
+    let both = absent c.requires.1 c.in-NoTime.is c.put_none_field-at.ensures c.put_none_field.ensures in
+    record { short = both.0; text = both.1 }
