@@ -25,9 +25,9 @@ unfolding line_taken
 returns-in_default c =
     let at = c.loop-at.at in
 
-    let whole = ends c.loop-at.invariant _ (told_not_taken _ _ _ (some_left _ at c.loop-at-test.true)
+    let both = ends c.loop-at.invariant _ (told_not_taken _ _ _ (some_left _ at c.loop-at-test.true)
     (answers (line_taken _) c.line_at.ensures c.in_default.is)) in
-    record { answer = whole.0; table = whole.1 }
+    record { answer = both.0; table = both.1 }
 
 pub shape_of-table-then-room-read : goal.shape_of-table-then-room-read
 shape_of-table-then-room-read c = same_room c.loop-at.invariant
@@ -35,10 +35,10 @@ shape_of-table-then-room-read c = same_room c.loop-at.invariant
 pub returns-then-room-read : goal.returns-then-room-read
 unfolding line_taken
 returns-then-room-read c =
-    let whole = ends c.loop-at.invariant _
+    let both = ends c.loop-at.invariant _
     (told_full _ _ _ (answers (line_taken _) c.line_at.ensures c.in-Line.is)
     c.if-room-read.true) in
-    record { answer = whole.0; table = whole.1 }
+    record { answer = both.0; table = both.1 }
 
 pub overflow_mul-read : goal.overflow_mul-read
 overflow_mul-read c = omega (arith, c.if-room-read.false)
@@ -79,5 +79,5 @@ shape_of-table c = same_room c.loop-at.invariant
 
 pub returns : goal.returns
 returns c =
-    let whole = ends c.loop-at.invariant _ (told_behind _ _ _ _ c.loop-at-test.false) in
-    record { answer = whole.0; table = whole.1 }
+    let both = ends c.loop-at.invariant _ (told_behind _ _ _ _ c.loop-at-test.false) in
+    record { answer = both.0; table = both.1 }

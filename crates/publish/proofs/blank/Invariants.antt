@@ -1,10 +1,6 @@
 -- `blank` meets its contract: so far zeros are written up to i.
-use mathlib.Core.Path.{◌≡◌, refl, subst}
-use Prim.Native.Nat.{ℕ, ◌-◌, ◌≤◌}
-use native.Mathlib.Omega.{arith}
-use borrow.Author.Rules.{rules}
+use Prim.Native.Nat.{◌-◌, ◌≤◌}
 use Rattle.publish.specs.Runs.{WroteRun, zeros}
-use Rattle.publish.proofs.Runs.{wrote_none, wrote_one}
 use Rattle.publish.proofs.blank.Given as goal
 
 abbrev pub invariant-loop-i : goal.invariant-loop-i

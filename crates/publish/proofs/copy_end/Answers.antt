@@ -1,6 +1,5 @@
 -- `copy_end` meets its contract: case by case.
 use mathlib.Core.Path.{◌∙◌}
-use borrow.Author.Rules.{rules}
 use Rattle.publish.specs.End.{copy_end}
 use Rattle.publish.proofs.copy_end.Goals as goal
 

@@ -1,6 +1,6 @@
 -- `keep` meets its contract: so far the file's octets are written up to i.
 use mathlib.Core.Path.{◌≡◌, refl, subst}
-use Prim.Native.Nat.{ℕ, ◌-◌, ◌≤◌}
+use Prim.Native.Nat.{ℕ}
 use native.Mathlib.Omega.{arith}
 use borrow.Author.Rules.{rules}
 use Rattle.publish.specs.Runs.{WroteRun, file_octet}

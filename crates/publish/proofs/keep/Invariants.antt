@@ -1,10 +1,6 @@
 -- `keep` meets its contract: so far the file's octets are written up to i.
-use mathlib.Core.Path.{◌≡◌, refl, subst}
-use Prim.Native.Nat.{ℕ, ◌-◌, ◌≤◌}
-use native.Mathlib.Omega.{arith}
-use borrow.Author.Rules.{rules}
+use Prim.Native.Nat.{◌-◌, ◌≤◌}
 use Rattle.publish.specs.Runs.{WroteRun, file_octet}
-use Rattle.publish.proofs.Runs.{wrote_none, wrote_one}
 use Rattle.publish.proofs.keep.Given as goal
 
 abbrev pub invariant-loop-i : goal.invariant-loop-i

@@ -1,6 +1,5 @@
 -- `passed_at` meets its contract: by what is seen.
 use mathlib.Core.Path.{sym, ◌∙◌}
-use borrow.Author.Rules.{rules}
 use Rattle.publish.specs.Passed.{passed_by}
 use Rattle.publish.proofs.passed_at.Goals as goal
 

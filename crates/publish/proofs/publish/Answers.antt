@@ -1,6 +1,5 @@
 -- `publish` meets its contract: 1, 19, then by how the walk ends.
-use mathlib.Core.Path.{refl, sym, ◌∙◌}
-use borrow.Author.Rules.{rules}
+use mathlib.Core.Path.{sym, ◌∙◌}
 use Rattle.publish.specs.Copy.{by_outcome}
 use Rattle.publish.proofs.Answers.{too_long, too_short, by_walk}
 use Rattle.publish.proofs.publish.Goals as goal

@@ -1,10 +1,7 @@
 -- `put_copy` meets its contract: the copy stands up to the cursor, and at the end up to the file's.
-use mathlib.Core.Path.{sym, ◌∙◌}
 use Prim.Native.Nat.{◌-◌}
-use native.Mathlib.Omega.{arith}
 use lib.ListN.{length}
-use borrow.Author.Rules.{rules}
-use Rattle.publish.proofs.Copies.{Copying, passing, copying_first, to_write, copying_turn, nearer, copying_last}
+use Rattle.publish.proofs.Copies.{Copying}
 use Rattle.publish.proofs.put_copy.Given as goal
 
 abbrev pub invariant-loop-section : goal.invariant-loop-section

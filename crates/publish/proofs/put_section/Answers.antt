@@ -1,5 +1,4 @@
 -- `put_section` meets its contract: three runs, one behind the other.
-use borrow.Author.Rules.{rules}
 use Rattle.publish.proofs.Values.{section_written}
 use Rattle.publish.proofs.put_section.Goals as goal
 

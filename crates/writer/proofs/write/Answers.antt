@@ -3,9 +3,8 @@ use Prim.Native.Nat.{ℕ, ◌≤◌}
 use native.Mathlib.Omega.{arith}
 use native.Mathlib.Nat.{zero-add}
 use mathlib.Core.Path.{◌≡◌, refl, sym, ap, ◌∙◌}
-use mathlib.Core.List.{List, [], ◌∷◌, ◌++◌}
+use mathlib.Core.List.{List, ◌++◌}
 use lib.ListN.{length, drop}
-use borrow.Author.Rules.{rules}
 use Rattle.writer.specs.Plan.{parts_of, total_of, judged_plan}
 use Rattle.writer.specs.Message.{indicator_octets, body_octets, message_octets}
 use Rattle.writer.specs.Write.{Wrote, dest_of, write_of}
@@ -95,7 +94,6 @@ put_sections-requires c =
 pub returns : goal.returns
 returns c =
     let a = c.args in
-
     let all = whole _ _ _ a.plan.now a.store.now a.dest.now _ (sym c.judge_plan-answer.ensures ∙ c.in-Whole.is)
     _ c.put_indicator.ensures _ c.put_sections.ensures in
     record { answer = all.0; dest = all.1 }

@@ -1,6 +1,5 @@
 -- `write_end` meets its contract: case by case.
 use mathlib.Core.Path.{◌∙◌}
-use borrow.Author.Rules.{rules}
 use Rattle.writer.specs.End.{write_end}
 use Rattle.writer.proofs.write_end.Goals as goal
 

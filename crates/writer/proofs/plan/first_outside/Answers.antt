@@ -1,10 +1,7 @@
 -- `first_outside` meets its contract. The loop keeps `Scanned`.
-use Prim.Native.Nat.{◌-◌}
 use mathlib.Core.Path.{sym, ap, ◌∙◌}
-use lib.ListN.{length}
-use borrow.Author.Rules.{rules}
 use Rattle.writer.specs.Plan.{check_of, is_outside}
-use Rattle.writer.proofs.Scanned.{Scanned, start, on, here, ended}
+use Rattle.writer.proofs.Scanned.{start, on, here, ended}
 use Rattle.writer.proofs.plan.first_outside.Goals as goal
 
 pub loop-i-init : goal.loop-i-init

@@ -1,10 +1,7 @@
 -- `first_wrong_size` meets its contract. The loop keeps `Scanned`.
-use Prim.Native.Nat.{◌-◌}
 use mathlib.Core.Path.{sym, ap, ◌∙◌}
-use lib.ListN.{length}
-use borrow.Author.Rules.{rules}
 use Rattle.writer.specs.Plan.{check_of, is_wrong_size}
-use Rattle.writer.proofs.Scanned.{Scanned, start, on, here, ended}
+use Rattle.writer.proofs.Scanned.{start, on, here, ended}
 use Rattle.writer.proofs.plan.first_wrong_size.Goals as goal
 
 pub loop-i-init : goal.loop-i-init

@@ -1,10 +1,8 @@
 -- `first_wrong_size` meets its contract. The loop keeps `Scanned`.
 use Prim.Native.Nat.{◌-◌}
-use mathlib.Core.Path.{sym, ap, ◌∙◌}
 use lib.ListN.{length}
-use borrow.Author.Rules.{rules}
-use Rattle.writer.specs.Plan.{check_of, is_wrong_size}
-use Rattle.writer.proofs.Scanned.{Scanned, start, on, here, ended}
+use Rattle.writer.specs.Plan.{is_wrong_size}
+use Rattle.writer.proofs.Scanned.{Scanned}
 use Rattle.writer.proofs.plan.first_wrong_size.Given as goal
 
 abbrev pub invariant-loop-i : goal.invariant-loop-i

@@ -4,7 +4,6 @@ use native.Mathlib.Omega.{arith}
 use mathlib.Core.Path.{◌≡◌, sym, ap, ◌∙◌}
 use mathlib.Core.List.{List}
 use lib.ListN.{length}
-use borrow.Author.Rules.{rules}
 use borrow.Author.Tests.{lt-ltb, le-ltb}
 use Rattle.writer.specs.Plan.{no_fault, fault_at, parts_of, misfit, first_at, is_outside, is_wrong_size, total_of, judged_plan}
 use Rattle.writer.specs.declared.PlanPlace.{PlanPlace}

@@ -1,14 +1,9 @@
 -- `total_of` meets its contract. The loop keeps `Summed`: the sum so far, and what is left, are the whole.
-use Prim.Native.Nat.{ℕ, ◌+◌, ◌-◌, ◌*◌, ◌≤◌, ◌<◌}
-use native.Mathlib.Omega.{arith}
+use Prim.Native.Nat.{ℕ, ◌+◌, ◌-◌, ◌*◌, ◌≤◌}
 use mathlib.Core.Path.{◌≡◌}
-use mathlib.Core.Bool.{false}
 use mathlib.Core.List.{List}
-use lib.ListN.{length, drop, get_or}
-use borrow.Author.Rules.{rules}
+use lib.ListN.{length, drop}
 use Rattle.writer.specs.Plan.{no_fault, parts_of, is_wrong_size, first_at, sections_size, total_of}
-use Rattle.writer.proofs.Parts.{part_at, next_part, no_part, count_parts}
-use Rattle.writer.proofs.Checks.{first_passed, not_long}
 use Rattle.writer.proofs.plan.total_of.Given as goal
 
 -- a row is three numbers, so `most` counts each section three times: far under 2^64 still

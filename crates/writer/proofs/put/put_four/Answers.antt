@@ -4,7 +4,6 @@ use native.Mathlib.Omega.{arith}
 use mathlib.Core.Path.{◌≡◌, refl}
 use mathlib.Core.List.{List, [], ◌∷◌}
 use lib.ListN.{length, set, length-set}
-use borrow.Author.Rules.{rules}
 use Rattle.writer.specs.Put.{written_at}
 use Rattle.writer.proofs.Stored.{put_one, put_set}
 use Rattle.writer.proofs.put.put_four.Goals as goal

@@ -4,7 +4,6 @@ use native.Mathlib.Omega.{arith}
 use mathlib.Core.Path.{◌≡◌, refl, ◌∙◌}
 use mathlib.Core.List.{List, [], ◌∷◌}
 use lib.ListN.{length}
-use borrow.Author.Rules.{rules}
 use Rattle.writer.specs.Message.{digits, indicator_octets}
 use Rattle.writer.specs.Put.{written_at}
 use Rattle.writer.proofs.Stored.{put_then}

@@ -1,13 +1,10 @@
 -- `put_number` meets its contract. The loop keeps `Kept`: the octets that are left, put, are the whole number put.
-use Prim.Native.Nat.{ℕ, suc, ◌+◌, ◌-◌, ◌≤◌, ◌<◌, ◌/◌, ◌%◌}
-use native.Mathlib.Omega.{arith}
-use mathlib.Core.Path.{◌≡◌, refl, sym, ◌∙◌}
+use Prim.Native.Nat.{ℕ, ◌≤◌}
+use mathlib.Core.Path.{◌≡◌}
 use mathlib.Core.List.{List}
-use lib.ListN.{length, set, length-set}
-use borrow.Author.Rules.{rules}
+use lib.ListN.{length}
 use Rattle.writer.specs.Message.{digits}
 use Rattle.writer.specs.Put.{written_at}
-use Rattle.writer.proofs.Stored.{put_nothing, put_digit}
 use Rattle.writer.proofs.put.put_number.Given as goal
 
 pub record Kept (dest : List ℕ) (at width number : ℕ) (d : List ℕ) (left value : ℕ) : Type 0 where

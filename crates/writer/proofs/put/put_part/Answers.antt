@@ -1,12 +1,11 @@
 -- `put_part` meets its contract. The loop keeps that the octets so far are copied.
-use Prim.Native.Nat.{ℕ, ◌+◌, ◌-◌, ◌≤◌, ◌<◌}
+use Prim.Native.Nat.{ℕ, ◌+◌, ◌≤◌, ◌<◌}
 use native.Mathlib.Omega.{arith}
 use native.Mathlib.Numerals.{add-one}
 use mathlib.Core.Path.{◌≡◌, refl, ap, ◌∙◌}
 use mathlib.Core.List.{List}
 use lib.ListN.{length, take, drop, get_or, set, length-set, length-drop}
 use lib.Seq.{paste, paste-zero, paste-suc, get_or-drop}
-use borrow.Author.Rules.{rules}
 use Rattle.writer.specs.Put.{written_at}
 use Rattle.writer.proofs.Stored.{put_paste}
 use Rattle.writer.proofs.put.put_part.Goals as goal

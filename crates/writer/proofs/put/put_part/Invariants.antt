@@ -1,14 +1,9 @@
 -- `put_part` meets its contract. The loop keeps that the octets so far are copied.
-use Prim.Native.Nat.{ℕ, ◌+◌, ◌-◌, ◌≤◌, ◌<◌}
-use native.Mathlib.Omega.{arith}
-use native.Mathlib.Numerals.{add-one}
-use mathlib.Core.Path.{◌≡◌, refl, ap, ◌∙◌}
+use Prim.Native.Nat.{ℕ, ◌-◌, ◌≤◌}
+use mathlib.Core.Path.{◌≡◌}
 use mathlib.Core.List.{List}
-use lib.ListN.{length, take, drop, get_or, set, length-set, length-drop}
-use lib.Seq.{paste, paste-zero, paste-suc, get_or-drop}
-use borrow.Author.Rules.{rules}
-use Rattle.writer.specs.Put.{written_at}
-use Rattle.writer.proofs.Stored.{put_paste}
+use lib.ListN.{length, drop}
+use lib.Seq.{paste}
 use Rattle.writer.proofs.put.put_part.Given as goal
 
 pub record Copied (store : List ℕ) (from octets : ℕ) (dest : List ℕ) (at : ℕ) (d : List ℕ) (i : ℕ) : Type 0 where

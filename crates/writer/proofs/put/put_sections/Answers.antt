@@ -4,13 +4,12 @@ use native.Mathlib.Omega.{arith}
 use mathlib.Core.Path.{◌≡◌, refl, ap, ◌∙◌}
 use mathlib.Core.List.{List, [], ◌∷◌, ◌++◌, append_assoc}
 use lib.ListN.{length, take, drop, get_or, length-append}
-use borrow.Author.Rules.{rules}
 use Rattle.writer.specs.Plan.{parts_of, sections_size, total_of, judged_plan}
 use Rattle.writer.specs.Message.{digits, section_octets, body_octets}
 use Rattle.writer.specs.Put.{written_at}
 use Rattle.writer.specs.declared.Written.TheVariants.{Whole}
 use Rattle.writer.proofs.Parts.{part_at, next_part, no_part}
-use Rattle.writer.proofs.Checks.{Sound, AllSound, sound_head, sound_tail, accepted, all_sound}
+use Rattle.writer.proofs.Checks.{Sound, sound_head, sound_tail, accepted, all_sound}
 use Rattle.writer.proofs.Stored.{put_length, put_then, length_digits}
 use Rattle.writer.proofs.Lengths.{length_payload}
 use Rattle.writer.proofs.put.put_sections.Goals as goal
