@@ -1,6 +1,6 @@
 -- A function whose parameters are plain data, by value or in lent slices, can be called (specs/Contract.antt): the slices are put into memory,
 -- lifetimes are begun, and the memory is lent.
-use Prim.Native.Nat.{ℕ, zero, suc}
+use Prim.Native.Nat.{ℕ, zero, suc, ◌+◌}
 use mathlib.Core.List.{List, [], ◌∷◌}
 use mathlib.Core.Path.{◌≡◌, refl, sym, subst}
 use mathlib.Core.Option.{some}
@@ -8,15 +8,16 @@ use mathlib.Core.Logic.{∥∥₁_prop, ∥∥₁_elim, ∥∥₁_map}
 use lib.ListN.{length}
 use lib.Dec.{T}
 use seplogic.Ra.Ura.{Ura}
-use seplogic.Ra.TreeShare.{full_share}
+use base.Fraction.{full_share}
 use mir.Syntax.{Ty, ty_array, named}
 use mir.Val.{Val, WT, has_ty}
 use base.Logic.{SProp, ent, sep, ex, emp, guard, upd, id⊢, via, comm∗, assoc∗, assoc', mono_l, mono_r, fst∗, snd∗, emp∗, ex_i, ex∗, upd_mono, upd_frame, Sat_exists}
-use base.Fml.{GName, Fml, feq}
+use base.Fml.{GName, Lft, Fml, feq}
 use prog.Memory.{Memory, alloc_m, store_m}
 use prog.Model.{Model}
 use prog.AdequacyRun.{start_mem}
-use prog.Routine.{Routine}
+use prog.Routine.{Routine, Callee}
+use prog.Wired.{Code}
 use types.Logic.{Logic, sem}
 use types.SemTy.{cells}
 use types.Share.{parts, arr_parts}
@@ -26,14 +27,16 @@ use contract.Lifetimes.{Lfts, Shares, Within, lft_at, toks}
 use denote.Array.{Array, array_val, each, Array-Typed}
 use denote.ArrayMemory.{Single, Array-apart}
 use denote.Laws.{Typed, Is, Lawful}
-use denote.Lend.{lends_slice, lends_shr_slice, Held}
-use denote.Memory.{part_at, part_of, raw_all, cell_at, mem, shares, lone}
+use denote.Lend.{lends_slice, Held}
+use denote.Lends.{Lent, Lent-nothing, Lent-both}
+use denote.Memory.{part_at, part_of, raw_all, cell_at, mem, shares, shared_of, lone}
 use denote.RattleType.{RattleType, Denots, Valss, owns}
 use denote.Shadow.{shadow, Pure, makes_shadow}
 use denote.Signature.{Slot, type_at, types_at}
-use denote.Slice.{ShrSlice, MutSlice, slice_val}
-use Rattle.promises.proofs.Told.{promised}
-use Rattle.promises.specs.Contract.{Contract, SeenAtExit, asked, AsksNothing, Answers, SeenIs, CanBeCalled, Promised}
+use denote.Slice.{MutSlice, slice_val, shr_slice_at, elements_shared}
+use denote.Ref.{Bor}
+use Rattle.promises.proofs.Told.{Stated, promised}
+use Rattle.promises.specs.Contract.{Contract, SeenAtExit, asked, AsksNothing, SeenIs, CanBeCalled, Promised}
 use Rattle.promises.specs.Parameters.{Parameter, value, lent, lent_mut, AllRepresentable, slot_of, slots_of, function_of, Content, Contents, content_of, contents_of, MayPass, MayPassAll}
 
 -- data that owns only facts
@@ -46,10 +49,16 @@ pub record Element (R : RattleType) : Type 2 where
   pub single : Single R.mir
   pub lawful : {M : Type 1} {𝓤 : Ura M} (𝓛 : Logic 𝓤) → Lawful 𝓛 R
 
+-- and whose slices can be lent to read: a value in memory is
+pub record Readable (R : RattleType) : Type 2 where
+  pub element : Element R
+  pub lends : {M : Type 1} {𝓤 : Ura M} (𝓛 : Logic 𝓤) (x : R.Denot) (b o : ℕ)
+      → Lent 𝓛 (part_at R full_share x b o) (shared_of R x b o)
+
 module _ {n : ℕ} where
   abbrev pub Known : Parameter n → Type 2
   Known (value R) = Plain R
-  Known (lent j ok R) = Element R
+  Known (lent j ok R) = Readable R
   Known (lent_mut j ok R) = Element R
 
   abbrev pub KnownAll : List (Parameter n) → Type 2
@@ -180,6 +189,22 @@ module _ {M : Type 1} {𝓤 : Ura M} (𝓛 : Logic 𝓤) (𝓜 : Model 𝓤 𝓛
   whole_cells R [] b o = id⊢ 𝓤 (emp 𝓤)
   whole_cells R (x ∷ xs) b o = mono_r 𝓤 ⟦ part_at R full_share x b o ⟧ (whole_cells R xs b _)
 
+  -- values side by side are lent to read, one by one
+  elements_lent : (R : RattleType) → Readable R → (xs : List R.Denot) (b o : ℕ) → Lent 𝓛 (parts (mem R) (shares R) full_share xs b o) (elements_shared R xs b o)
+  elements_lent R E [] b o = Lent-nothing 𝓛
+  elements_lent R E (x ∷ xs) b o =
+      let o' = o + (mem R).size in
+      Lent-both 𝓛 (part_at R full_share x b o) (parts (mem R) (shares R) full_share xs b o') (shared_of R x b o) (elements_shared R xs b o') (E.lends 𝓛 x b o) (elements_lent R E xs b o')
+
+  shared_out : (R : RattleType) → Readable R → (κ : Lft) (xs : List R.Denot) (b : ℕ) (σ : Memory) (F : Pr) → Sat σ (Lies R xs b ∗ F) → Sat σ (⟦ elements_shared R xs b zero κ ⟧ ∗ F)
+  shared_out R E κ xs b σ F s =
+      let lie : Fml = parts (mem R) (shares R) full_share xs b zero in
+      let out : Pr = ⟦ elements_shared R xs b zero κ ⟧ in
+      let back : Pr = 𝓛.A.lent κ lie in
+      sat_weaken 𝓤 H 𝓜 σ (mono_l 𝓤 F (fst∗ 𝓤 out back))
+      (sat_⇛ 𝓤 H 𝓜 σ (out ∗ back) F
+      (sat_weaken 𝓤 H 𝓜 σ (mono_l 𝓤 F (via 𝓤 ⟦ lie ⟧ (snd∗ 𝓤 ⟦ feq ℕ (length xs) (length xs) ⟧ ⟦ lie ⟧) (elements_lent R E xs b zero κ))) s))
+
   -- a ghost update that makes something under a name is run
   pub under_name : (σ : Memory) (P F : Pr) (Q L : GName → Pr) → P ⊢ H.⇛ (ex 𝓤 (λ (γ : GName). Q γ ∗ L γ)) → Sat σ (P ∗ F) → ∥ ((γ : GName) × Sat σ (Q γ ∗ F)) ∥₁
   under_name σ P F Q L h s =
@@ -206,16 +231,24 @@ module _ {M : Type 1} {𝓤 : Ura M} (𝓛 : Logic 𝓤) (𝓜 : Model 𝓤 𝓛
         } ∣₁
     passed (lent j ok R) E xs may σ F s =
         let κ = lft_at n j ok κs in
-        ∥∥₁_elim (laid R E xs may.1 σ F s) ∥∥₁_prop λ r.
+        ∥∥₁_map (laid R E.element xs may.1 σ F s) λ r.
         let b = r.1 in
-        ∥∥₁_map (under_name r.0 (Lies R xs b) F (λ γ. ⟦ (ShrSlice (named j) κ R).own_val (record { ptr = (b, zero); name = γ; now = xs }) (slice_val (b, zero) (length xs) ∷ []) ⟧)
-        (λ γ. 𝓛.A.lent κ ((arr_parts (shares R) (length xs)).part full_share xs b zero)) (lends_shr_slice 𝓛 R (named j) κ full_share xs b zero may.0) r.2) λ g.
-        record { memory = r.0; argument = record { ref_ptr = (b, zero); ghost_name = g.0; now = xs }; values = slice_val (b, zero) (length xs) ∷ []; is = refl; holds = g.1 }
+        let argument : Bor (List R.Denot) = record { ref_ptr = (b, zero); now = xs } in
+        let values : List Val = slice_val (b, zero) (length xs) ∷ [] in
+        let at : Fml = shr_slice_at R argument values in
+        let out : Pr = ⟦ elements_shared R xs b zero κ ⟧ in
+        record {
+          memory = r.0;
+          argument = argument;
+          values = values;
+          is = refl;
+          holds = sat_weaken 𝓤 H 𝓜 r.0 (assoc' 𝓤 ⟦ at ⟧ out F) (beside r.0 ⟦ at ⟧ (out ∗ F) (makes_shadow 𝓛 at (tt, (tt, tt)) (refl, may.0)) (shared_out R E κ xs b r.0 F r.2));
+        }
     passed (lent_mut j ok R) E xs may σ F s =
         let κ = lft_at n j ok κs in
         ∥∥₁_elim (laid R E xs may.1 σ F s) ∥∥₁_prop λ r.
         let b = r.1 in
-        ∥∥₁_map (under_name r.0 (Lies R xs b) F (λ γ. ⟦ (MutSlice (named j) κ R).own_val (record { ptr = (b, zero); name = γ; now = xs }) (slice_val (b, zero) (length xs) ∷ []) ⟧)
+        ∥∥₁_map (under_name r.0 (Lies R xs b) F (λ γ. ⟦ (MutSlice (named j) κ R).own_val (record { ref_ptr = (b, zero); ghost_name = γ; now = xs }) (slice_val (b, zero) (length xs) ∷ []) ⟧)
         (λ γ. 𝓛.A.lent κ (Held R (length xs) b zero γ))
         (via 𝓤 ⟦ cells (mem R) xs b zero ⟧ (via 𝓤 ⟦ parts (mem R) (shares R) full_share xs b zero ⟧ (snd∗ 𝓤 ⟦ feq ℕ (length xs) (length xs) ⟧ ⟦ parts (mem R) (shares R) full_share xs b zero ⟧) (whole_cells R xs b zero))
         (lends_slice 𝓛 R (named j) κ xs b zero may.0)) r.2) λ g.
@@ -264,14 +297,13 @@ module _ {M : Type 1} {n : ℕ} (ps : List (Parameter n)) (Es : KnownAll ps) {re
       → ((𝓤 : Ura M) (𝓛 : Logic 𝓤) (content : Memory → SProp 𝓤) (run : Routine → Fun 𝓤) (κs : Lfts n) (a : Denots (types_at (slots_of ps) κs)) → (c 𝓤 𝓛 content run κs a).ghost)
       → CanBeCalled M (function_of ps result) c (contents_of ps) (MayPassAll ps)
   can_be_called c nothing any contents may 𝓤 𝓛 𝓜 𝓡 =
-      let A = 𝓛.A in
       ∥∥₁_elim (started 𝓛 𝓜 n) ∥∥₁_prop λ k.
       let κs = k.1 in
       let tokens : SProp 𝓤 = toks 𝓛 n κs (whole n) in
       ∥∥₁_map (all_passed 𝓛 𝓜 κs ps Es contents may k.0 (sep 𝓤 tokens (emp 𝓤)) k.2) λ r.
       let own : SProp 𝓤 = sem 𝓛 (owns (types_at (slots_of ps) κs) r.arguments r.values) in
-      let ghost = any 𝓤 𝓛 𝓜.mem 𝓡.run κs r.arguments in
-      let asks : asked M (function_of ps result) c _ ≡ emp 𝓤 = nothing (record { memory = 𝓤; heap = 𝓛.H; atoms = A; content = 𝓜.mem; run = 𝓡.run; lifetimes = κs; arguments = r.arguments; ghost = ghost }) in
+      let ghost = any 𝓤 𝓛 𝓜.mem 𝓡.returns κs r.arguments in
+      let asks : asked M (function_of ps result) c _ ≡ emp 𝓤 = nothing (record { memory = 𝓤; logic = 𝓛; content = 𝓜.mem; run = 𝓡.returns; lifetimes = κs; arguments = r.arguments; ghost = ghost }) in
       record {
         memory = r.memory;
         bound = (κs, whole n, tt, r.arguments, r.values);
@@ -290,7 +322,7 @@ module _ {n : ℕ} where
   abbrev pub by_value : {R : RattleType} → Plain R → Given n
   by_value {R} P = record { parameter = value R; known = P }
 
-  abbrev pub to_read : (j : ℕ) → Within n j → {R : RattleType} → Element R → Given n
+  abbrev pub to_read : (j : ℕ) → Within n j → {R : RattleType} → Readable R → Given n
   to_read j ok {R} E = record { parameter = lent j ok R; known = E }
 
   abbrev pub to_write : (j : ℕ) → Within n j → {R : RattleType} → Element R → Given n
@@ -304,9 +336,9 @@ module _ {n : ℕ} where
   known_of [] = tt
   known_of (g ∷ gs) = (g.known, known_of gs)
 
-module _ {M : Type 1} (n : ℕ) (gs : List (Given n)) {result : Slot n} {c : Contract M (function_of (parameters_of gs) result)} {routine : Routine} {O : Type 0} {seen : SeenAtExit M (function_of (parameters_of gs) result) O} {definition : Contents (parameters_of gs) → O} where
+module _ {M : Type 1} (n : ℕ) (gs : List (Given n)) {result : Slot n} {c : Contract M (function_of (parameters_of gs) result)} {code : Code} {name : Callee} {O : Type 0} {seen : SeenAtExit M (function_of (parameters_of gs) result) O} {definition : Contents (parameters_of gs) → O} where
   pub by : AsksNothing M (function_of (parameters_of gs) result) c
       → ((𝓤 : Ura M) (𝓛 : Logic 𝓤) (content : Memory → SProp 𝓤) (run : Routine → Fun 𝓤) (κs : Lfts n) (a : Denots (types_at (slots_of (parameters_of gs)) κs)) → (c 𝓤 𝓛 content run κs a).ghost)
-      → Answers M (function_of (parameters_of gs) result) c routine → SeenIs M (function_of (parameters_of gs) result) c (contents_of (parameters_of gs)) seen definition
-      → Promised M (function_of (parameters_of gs) result) c routine (contents_of (parameters_of gs)) (MayPassAll (parameters_of gs)) seen definition
+      → Stated M (function_of (parameters_of gs) result) c code name → SeenIs M (function_of (parameters_of gs) result) c (contents_of (parameters_of gs)) seen definition
+      → Promised M (function_of (parameters_of gs) result) c code name (contents_of (parameters_of gs)) (MayPassAll (parameters_of gs)) seen definition
   by nothing any met says = promised nothing (can_be_called (parameters_of gs) (known_of gs) c nothing any) met says

@@ -6,7 +6,8 @@ use Rattle.std.specs.Prelude.{ℕ, ◌<◌, ◌^◌, List, [], ◌∷◌, length
 use Rattle.std.specs.Int.{w8, w64}
 use mir.Val.{Val}
 use prog.Model.{AllFit}
-use prog.Routine.{Routine}
+use prog.Routine.{Callee}
+use prog.Wired.{Code}
 use contract.Lifetimes.{Lfts, Within}
 use denote.RattleType.{RattleType, Denots}
 use denote.Shadow.{shadow}
@@ -102,10 +103,10 @@ module _ {n : ℕ} where
 
 -- what is seen is a definition of the parameters' contents
 abbrev pub Gives : (M : Type 1) (n : ℕ) (ps : List (Parameter n)) {R : RattleType}
-    → Contract M (function_of ps (plain (λ _. R))) → Routine → (Contents ps → Shown R.Denot ps)
-    → Type 2
-Gives M n ps {R} c routine definition =
-    Promised M (function_of ps (plain (λ _. R))) c routine (contents_of ps) (MayPassAll ps)
+    → Contract M (function_of ps (plain (λ _. R))) → Code → Callee
+    → (Contents ps → Shown R.Denot ps) → Type 2
+Gives M n ps {R} c code name definition =
+    Promised M (function_of ps (plain (λ _. R))) c code name (contents_of ps) (MayPassAll ps)
     (λ κs answer exit. shown ps κs answer exit) definition
 
 -- what may be lent, in plain words: octets, each under 256 and under 2^63 of them; numbers of 64
