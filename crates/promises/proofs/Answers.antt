@@ -33,24 +33,42 @@ use Rattle.inventory.proofs as inventory
 use Rattle.lists.proofs as lists
 use Rattle.requests.proofs as requests
 use Rattle.buttresk.proofs as buttresk
-use Rattle.products.proofs.templates.TemplateReading as TemplateReading
-use Rattle.framing.proofs.read.Cursor as Cursor
-use Rattle.framing.proofs.read.Section as Section
-use Rattle.order.proofs.Order as Order
-use Rattle.order.proofs.Place as Place
-use Rattle.index.proofs.line.Force as Force
-use Rattle.index.proofs.line.MessageEnd as MessageEnd
-use Rattle.index.proofs.line.Span as Span
-use Rattle.index.proofs.line.Line as Line
-use Rattle.index.proofs.refusal.Outcome as Outcome
-use Rattle.reading.proofs.Reading as Reading
-use Rattle.standing.proofs.Standing as Standing
-use Rattle.pull.proofs.Progress as Progress
-use Rattle.publish.proofs.Published as Published
-use Rattle.writer.proofs.Written as Written
-use Rattle.entries.proofs.Entry as Entry
-use Rattle.inventory.proofs.Inventoried as Inventoried
-use Rattle.lists.proofs.ListEnd as ListEnd
+use Rattle.products.specs.contracts.templates.TemplateReading as TemplateReading
+use Rattle.products.proofs.templates.TemplateReading.TheLaws as TemplateReadingLaws
+use Rattle.framing.specs.contracts.read.Cursor as Cursor
+use Rattle.framing.proofs.read.Cursor.TheLaws as CursorLaws
+use Rattle.framing.specs.contracts.read.Section as Section
+use Rattle.framing.proofs.read.Section.TheLaws as SectionLaws
+use Rattle.order.specs.contracts.Order as Order
+use Rattle.order.proofs.Order.TheLaws as OrderLaws
+use Rattle.order.specs.contracts.Place as Place
+use Rattle.order.proofs.Place.TheLaws as PlaceLaws
+use Rattle.index.specs.contracts.line.Force as Force
+use Rattle.index.proofs.line.Force.TheLaws as ForceLaws
+use Rattle.index.specs.contracts.line.MessageEnd as MessageEnd
+use Rattle.index.proofs.line.MessageEnd.TheLaws as MessageEndLaws
+use Rattle.index.specs.contracts.line.Span as Span
+use Rattle.index.proofs.line.Span.TheLaws as SpanLaws
+use Rattle.index.specs.contracts.line.Line as Line
+use Rattle.index.proofs.line.Line.TheLaws as LineLaws
+use Rattle.index.specs.contracts.refusal.Outcome as Outcome
+use Rattle.index.proofs.refusal.Outcome.TheLaws as OutcomeLaws
+use Rattle.reading.specs.contracts.Reading as Reading
+use Rattle.reading.proofs.Reading.TheLaws as ReadingLaws
+use Rattle.standing.specs.contracts.Standing as Standing
+use Rattle.standing.proofs.Standing.TheLaws as StandingLaws
+use Rattle.pull.specs.contracts.Progress as Progress
+use Rattle.pull.proofs.Progress.TheLaws as ProgressLaws
+use Rattle.publish.specs.contracts.Published as Published
+use Rattle.publish.proofs.Published.TheLaws as PublishedLaws
+use Rattle.writer.specs.contracts.Written as Written
+use Rattle.writer.proofs.Written.TheLaws as WrittenLaws
+use Rattle.entries.specs.contracts.Entry as Entry
+use Rattle.entries.proofs.Entry.TheLaws as EntryLaws
+use Rattle.inventory.specs.contracts.Inventoried as Inventoried
+use Rattle.inventory.proofs.Inventoried.TheLaws as InventoriedLaws
+use Rattle.lists.specs.contracts.ListEnd as ListEnd
+use Rattle.lists.proofs.ListEnd.TheLaws as ListEndLaws
 use Rattle.framing.proofs.NextStart.{next_start_is}
 use Rattle.pull.specs.declared.Progress.{Progress}
 use Rattle.pull.specs.declared.Pulled.{Pulled}
@@ -75,69 +93,69 @@ number : (w : Width) → Element (UInt w)
 number w = record { plain = plain_number w; single = tt; lawful = λ 𝓛. uint_Lawful 𝓛 w }
 
 plain-Cursor : Plain Cursor.the_row
-plain-Cursor = record { pure = λ d. Cursor.TheLaws.the_field_plain ((Cursor.the_type).to d) }
+plain-Cursor = record { pure = λ d. CursorLaws.the_field_plain (Cursor.the_type.to d) }
 
 plain-Order : Plain Order.the_row
-plain-Order = record { pure = λ d. Order.TheLaws.the_field_plain ((Order.the_type).to d) }
+plain-Order = record { pure = λ d. OrderLaws.the_field_plain (Order.the_type.to d) }
 
 plain-Place : Plain Place.the_row
-plain-Place = record { pure = λ d. Place.TheLaws.the_field_plain ((Place.the_type).to d) }
+plain-Place = record { pure = λ d. PlaceLaws.the_field_plain (Place.the_type.to d) }
 
 plain-MessageEnd : Plain MessageEnd.the_row
 plain-MessageEnd = record {
-  pure = λ d. MessageEnd.TheLaws.the_field_plain ((MessageEnd.the_type).to d);
+  pure = λ d. MessageEndLaws.the_field_plain (MessageEnd.the_type.to d);
 }
 
 plain-Span : Plain Span.the_row
-plain-Span = record { pure = λ d. Span.TheLaws.the_field_plain ((Span.the_type).to d) }
+plain-Span = record { pure = λ d. SpanLaws.the_field_plain (Span.the_type.to d) }
 
 plain-Force : Plain Force.the_row
-plain-Force = record { pure = λ d. Force.TheLaws.the_field_plain ((Force.the_type).to d) }
+plain-Force = record { pure = λ d. ForceLaws.the_field_plain (Force.the_type.to d) }
 
 plain-Line : Plain Line.the_row
-plain-Line = record { pure = λ d. Line.TheLaws.the_field_plain ((Line.the_type).to d) }
+plain-Line = record { pure = λ d. LineLaws.the_field_plain (Line.the_type.to d) }
 
 plain-Outcome : Plain Outcome.the_row
-plain-Outcome = record { pure = λ d. Outcome.TheLaws.the_field_plain ((Outcome.the_type).to d) }
+plain-Outcome = record { pure = λ d. OutcomeLaws.the_field_plain (Outcome.the_type.to d) }
 
 plain-Reading : Plain Reading.the_row
-plain-Reading = record { pure = λ d. Reading.TheLaws.the_field_plain ((Reading.the_type).to d) }
+plain-Reading = record { pure = λ d. ReadingLaws.the_field_plain (Reading.the_type.to d) }
 
 plain-Section : Plain Section.the_row
-plain-Section = record { pure = λ d. Section.TheLaws.the_field_plain ((Section.the_type).to d) }
+plain-Section = record { pure = λ d. SectionLaws.the_field_plain (Section.the_type.to d) }
 
 plain-Standing : Plain Standing.the_row
-plain-Standing = record { pure = λ d. Standing.TheLaws.the_field_plain ((Standing.the_type).to d) }
+plain-Standing = record { pure = λ d. StandingLaws.the_field_plain (Standing.the_type.to d) }
 
 plain-TemplateReading : Plain TemplateReading.the_row
 plain-TemplateReading =
-    record { pure = λ d. TemplateReading.TheLaws.the_field_plain ((TemplateReading.the_type).to d) }
+    record { pure = λ d. TemplateReadingLaws.the_field_plain (TemplateReading.the_type.to d) }
 
 plain-Progress : Plain Progress.the_row
-plain-Progress = record { pure = λ d. Progress.Laws.the_field_plain ((Progress.the_type).to d) }
+plain-Progress = record { pure = λ d. ProgressLaws.the_field_plain (Progress.the_type.to d) }
 
 plain-Published : Plain Published.the_row
-plain-Published = record { pure = λ d. Published.TheLaws.the_field_plain ((Published.the_type).to d) }
+plain-Published = record { pure = λ d. PublishedLaws.the_field_plain (Published.the_type.to d) }
 
 plain-Written : Plain Written.the_row
-plain-Written = record { pure = λ d. Written.TheLaws.the_field_plain ((Written.the_type).to d) }
+plain-Written = record { pure = λ d. WrittenLaws.the_field_plain (Written.the_type.to d) }
 
 plain-Entry : Plain Entry.the_row
-plain-Entry = record { pure = λ d. Entry.TheLaws.the_field_plain ((Entry.the_type).to d) }
+plain-Entry = record { pure = λ d. EntryLaws.the_field_plain (Entry.the_type.to d) }
 
 plain-Inventoried : Plain Inventoried.the_row
 plain-Inventoried = record {
-  pure = λ d. Inventoried.TheLaws.the_field_plain ((Inventoried.the_type).to d);
+  pure = λ d. InventoriedLaws.the_field_plain (Inventoried.the_type.to d);
 }
 
 plain-ListEnd : Plain ListEnd.the_row
-plain-ListEnd = record { pure = λ d. ListEnd.TheLaws.the_field_plain ((ListEnd.the_type).to d) }
+plain-ListEnd = record { pure = λ d. ListEndLaws.the_field_plain (ListEnd.the_type.to d) }
 
 line : Element Line.the_row
 line = record {
   plain = plain-Line;
   single = tt;
-  lawful = λ 𝓛. lawful Line.the_type Line.TheLaws.the_laws 𝓛;
+  lawful = λ 𝓛. lawful Line.the_type LineLaws.the_laws 𝓛;
 }
 
 -- a reader at its file's start, and a reader after a turn

@@ -10,13 +10,19 @@ use denote.Laws.{Is}
 use denote.Plain.{UInt}
 use denote.Struct.Laws as struct
 use denote.Enum.Laws as enum
-use Rattle.order.proofs.Place as PlaceRow
+use Rattle.order.specs.contracts.Place as PlaceRow
+use Rattle.order.proofs.Place.TheLaws as PlaceRowLaws
 use Rattle.order.specs.declared.Place.{Place}
-use Rattle.index.proofs.line.LocalUsePlace as LocalRow
-use Rattle.index.proofs.line.MessageEnd as EndRow
-use Rattle.index.proofs.line.Span as SpanRow
-use Rattle.index.proofs.line.Line as LineRow
-use Rattle.framing.proofs.read.Offset as OffsetRow
+use Rattle.index.specs.contracts.line.LocalUsePlace as LocalRow
+use Rattle.index.proofs.line.LocalUsePlace.TheLaws as LocalRowLaws
+use Rattle.index.specs.contracts.line.MessageEnd as EndRow
+use Rattle.index.proofs.line.MessageEnd.TheLaws as EndRowLaws
+use Rattle.index.specs.contracts.line.Span as SpanRow
+use Rattle.index.proofs.line.Span.TheLaws as SpanRowLaws
+use Rattle.index.specs.contracts.line.Line as LineRow
+use Rattle.index.proofs.line.Line.TheLaws as LineRowLaws
+use Rattle.framing.specs.contracts.read.Offset as OffsetRow
+use Rattle.framing.proofs.read.Offset.TheLaws as OffsetRowLaws
 use Rattle.framing.specs.declared.read.Offset.{Offset}
 use Rattle.index.specs.declared.line.Line.{Line}
 use Rattle.index.specs.declared.line.LocalUsePlace.{LocalUsePlace}
@@ -31,32 +37,32 @@ numbers_fit : (w : Width) (ns : List ℕ) → AllFit w ns → AllRepresentable (
 numbers_fit w [] fit = tt
 numbers_fit w (n ∷ ns) fit = ((vint w n ∷ [], (refl, fit.0.fits)), numbers_fit w ns fit.1)
 
-place_fits : (p : Place) → p.0 < 2 ^ 64 → Is PlaceRow.the_row p (struct.vals PlaceRow.the_type PlaceRow.TheLaws.the_laws p)
-place_fits p fit = struct.owes PlaceRow.the_type PlaceRow.TheLaws.the_laws p ((refl, fit), tt)
+place_fits : (p : Place) → p.0 < 2 ^ 64 → Is PlaceRow.the_row p (struct.vals PlaceRow.the_type PlaceRowLaws.the_laws p)
+place_fits p fit = struct.owes PlaceRow.the_type PlaceRowLaws.the_laws p ((refl, fit), tt)
 
-local_fits : (d : LocalUsePlace) → local_place d < 2 ^ 64 → Is LocalRow.the_row d (enum.vals LocalRow.the_type LocalRow.TheLaws.the_laws d)
+local_fits : (d : LocalUsePlace) → local_place d < 2 ^ 64 → Is LocalRow.the_row d (enum.vals LocalRow.the_type LocalRowLaws.the_laws d)
 unfolding local_place
-local_fits (At p) fit = enum.owes LocalRow.the_type LocalRow.TheLaws.the_laws (At p) (place_fits p fit, tt)
-local_fits Absent fit = enum.owes LocalRow.the_type LocalRow.TheLaws.the_laws Absent tt
+local_fits (At p) fit = enum.owes LocalRow.the_type LocalRowLaws.the_laws (At p) (place_fits p fit, tt)
+local_fits Absent fit = enum.owes LocalRow.the_type LocalRowLaws.the_laws Absent tt
 
-end_fits : (e : MessageEnd) → end_place e < 2 ^ 64 → Is EndRow.the_row e (enum.vals EndRow.the_type EndRow.TheLaws.the_laws e)
+end_fits : (e : MessageEnd) → end_place e < 2 ^ 64 → Is EndRow.the_row e (enum.vals EndRow.the_type EndRowLaws.the_laws e)
 unfolding end_place
-end_fits GoesOn fit = enum.owes EndRow.the_type EndRow.TheLaws.the_laws GoesOn tt
-end_fits (ClosedAt p) fit = enum.owes EndRow.the_type EndRow.TheLaws.the_laws (ClosedAt p) (place_fits p fit, tt)
+end_fits GoesOn fit = enum.owes EndRow.the_type EndRowLaws.the_laws GoesOn tt
+end_fits (ClosedAt p) fit = enum.owes EndRow.the_type EndRowLaws.the_laws (ClosedAt p) (place_fits p fit, tt)
 
-offset_fits : (o : Offset) → o.0 < 2 ^ 64 → Is OffsetRow.the_row o (struct.vals OffsetRow.the_type OffsetRow.TheLaws.the_laws o)
-offset_fits o fit = struct.owes OffsetRow.the_type OffsetRow.TheLaws.the_laws o ((refl, fit), tt)
+offset_fits : (o : Offset) → o.0 < 2 ^ 64 → Is OffsetRow.the_row o (struct.vals OffsetRow.the_type OffsetRowLaws.the_laws o)
+offset_fits o fit = struct.owes OffsetRow.the_type OffsetRowLaws.the_laws o ((refl, fit), tt)
 
-span_fits : (s : Span) → s.offset.0 < 2 ^ 64 → s.total < 2 ^ 64 → Is SpanRow.the_row s (struct.vals SpanRow.the_type SpanRow.TheLaws.the_laws s)
-span_fits s offset total = struct.owes SpanRow.the_type SpanRow.TheLaws.the_laws s (offset_fits s.offset offset, ((refl, total), tt))
+span_fits : (s : Span) → s.offset.0 < 2 ^ 64 → s.total < 2 ^ 64 → Is SpanRow.the_row s (struct.vals SpanRow.the_type SpanRowLaws.the_laws s)
+span_fits s offset total = struct.owes SpanRow.the_type SpanRowLaws.the_laws s (offset_fits s.offset offset, ((refl, total), tt))
 
 line_fits : (l : Line) → AllFit w64 (line_numbers l) → Representable LineRow.the_row l
 unfolding line_numbers
 line_fits l fit =
     let places = fit.1.1.1.1 in
     let later = places.1.1.1.1 in (
-      struct.vals LineRow.the_type LineRow.TheLaws.the_laws l,
-      struct.owes LineRow.the_type LineRow.TheLaws.the_laws l (
+      struct.vals LineRow.the_type LineRowLaws.the_laws l,
+      struct.owes LineRow.the_type LineRowLaws.the_laws l (
         (refl, fit.0.fits),
         (
           (refl, fit.1.0.fits),
