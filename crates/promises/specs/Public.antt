@@ -5,30 +5,54 @@
 -- (docs/CONTRACTS.md lists them): they answer nothing and are lent nothing to write.
 use Rattle.std.specs.Prelude.{ℕ, List, [], ◌∷◌}
 use Rattle.std.specs.Borrow.{Array, u8, u16, u32, u64, usize}
-use Rattle.octets.proofs as octets
-use Rattle.sections.proofs as sections
-use Rattle.sections.proofs.indicator.Indicator as Indicator
-use Rattle.sections.proofs.identification.Identification as Identification
-use Rattle.sections.proofs.grid_definition.GridDefinition as GridDefinition
-use Rattle.sections.proofs.prod_definition.ProdDefinition as ProdDefinition
-use Rattle.sections.proofs.repr_definition.ReprDefinition as ReprDefinition
-use Rattle.sections.proofs.bit_map.BitMap as BitMap
-use Rattle.products.proofs as products
-use Rattle.framing.proofs as framing
-use Rattle.order.proofs as order
-use Rattle.index.proofs as index
-use Rattle.reading.proofs as reading
-use Rattle.standing.proofs as standing
-use Rattle.walk.proofs as walk
-use Rattle.walk_numbers.proofs as walk_numbers
-use Rattle.pull.proofs as pull
-use Rattle.publish.proofs as publish
-use Rattle.writer.proofs as writer
-use Rattle.entries.proofs as entries
-use Rattle.inventory.proofs as inventory
-use Rattle.lists.proofs as lists
-use Rattle.requests.proofs as requests
-use Rattle.buttresk.proofs as buttresk
+use Rattle.octets.specs.contracts as octets
+use Rattle.octets.proofs as octets_code
+use Rattle.sections.specs.contracts as sections
+use Rattle.sections.proofs as sections_code
+use Rattle.sections.specs.contracts.indicator.Indicator as Indicator
+use Rattle.sections.proofs.indicator.Indicator as IndicatorCode
+use Rattle.sections.specs.contracts.identification.Identification as Identification
+use Rattle.sections.proofs.identification.Identification as IdentificationCode
+use Rattle.sections.specs.contracts.grid_definition.GridDefinition as GridDefinition
+use Rattle.sections.proofs.grid_definition.GridDefinition as GridDefinitionCode
+use Rattle.sections.specs.contracts.prod_definition.ProdDefinition as ProdDefinition
+use Rattle.sections.proofs.prod_definition.ProdDefinition as ProdDefinitionCode
+use Rattle.sections.specs.contracts.repr_definition.ReprDefinition as ReprDefinition
+use Rattle.sections.proofs.repr_definition.ReprDefinition as ReprDefinitionCode
+use Rattle.sections.specs.contracts.bit_map.BitMap as BitMap
+use Rattle.sections.proofs.bit_map.BitMap as BitMapCode
+use Rattle.products.specs.contracts as products
+use Rattle.products.proofs as products_code
+use Rattle.framing.specs.contracts as framing
+use Rattle.framing.proofs as framing_code
+use Rattle.order.specs.contracts as order
+use Rattle.order.proofs as order_code
+use Rattle.index.specs.contracts as index
+use Rattle.index.proofs as index_code
+use Rattle.reading.specs.contracts as reading
+use Rattle.reading.proofs as reading_code
+use Rattle.standing.specs.contracts as standing
+use Rattle.standing.proofs as standing_code
+use Rattle.walk.specs.contracts as walk
+use Rattle.walk.proofs as walk_code
+use Rattle.walk_numbers.specs.contracts as walk_numbers
+use Rattle.walk_numbers.proofs as walk_numbers_code
+use Rattle.pull.specs.contracts as pull
+use Rattle.pull.proofs as pull_code
+use Rattle.publish.specs.contracts as publish
+use Rattle.publish.proofs as publish_code
+use Rattle.writer.specs.contracts as writer
+use Rattle.writer.proofs as writer_code
+use Rattle.entries.specs.contracts as entries
+use Rattle.entries.proofs as entries_code
+use Rattle.inventory.specs.contracts as inventory
+use Rattle.inventory.proofs as inventory_code
+use Rattle.lists.specs.contracts as lists
+use Rattle.lists.proofs as lists_code
+use Rattle.requests.specs.contracts as requests
+use Rattle.requests.proofs as requests_code
+use Rattle.buttresk.specs.contracts as buttresk
+use Rattle.buttresk.proofs as buttresk_code
 use Rattle.products.specs.contracts.templates.TemplateReading as TemplateReading
 use Rattle.framing.specs.contracts.read.Cursor as Cursor
 use Rattle.framing.specs.contracts.read.Section as Section
@@ -106,225 +130,193 @@ use Rattle.promises.specs.Parameters.{
 -- in memory of one kind
 pub record PublicFunctions (M : Type 1) : Type 2 where
   -- octets: big-endian numbers, and the number by sign and size
-  pub octets_be16 : Gives M 0 (value (Array u8 2) ∷ []) octets.be16.clauses
-      octets.be16.Symbol.routine (λ (octets, _). be_at octets 0 2)
-  pub octets_be32 : Gives M 0 (value (Array u8 4) ∷ []) octets.be32.clauses
-      octets.be32.Symbol.routine (λ (octets, _). be_at octets 0 4)
-  pub octets_be64 : Gives M 0 (value (Array u8 8) ∷ []) octets.be64.clauses
-      octets.be64.Symbol.routine (λ (octets, _). be_at octets 0 8)
-  pub octets_sign_and_size : Gives M 1 (lent 0 tt u8 ∷ []) octets.sign_and_size.clauses
-      octets.sign_and_size.Symbol.routine (λ (octets, _). signed_of octets)
+  pub octets_be16 : Gives M 0 (value (Array u8 2) ∷ []) (λ _. octets.be16.clauses) octets_code.be16.Symbol.code octets.be16.Key.name (λ (octets, _). be_at octets 0 2)
+  pub octets_be32 : Gives M 0 (value (Array u8 4) ∷ []) (λ _. octets.be32.clauses) octets_code.be32.Symbol.code octets.be32.Key.name (λ (octets, _). be_at octets 0 4)
+  pub octets_be64 : Gives M 0 (value (Array u8 8) ∷ []) (λ _. octets.be64.clauses) octets_code.be64.Symbol.code octets.be64.Key.name (λ (octets, _). be_at octets 0 8)
+  pub octets_sign_and_size : Gives M 1 (lent 0 tt u8 ∷ []) (λ _. octets.sign_and_size.clauses) octets_code.sign_and_size.Symbol.code octets.sign_and_size.Key.name (λ (octets, _). signed_of octets)
   -- sections: what a kind says of its number, and the decoded fields
-  pub sections_least_payload_of : Gives M 0 (value u64 ∷ []) sections.least_payload_of.clauses
-      sections.least_payload_of.Symbol.routine (λ (number, _). least_payload_of number)
-  pub sections_values_of : Gives M 0 (value u64 ∷ []) sections.values_of.clauses
-      sections.values_of.Symbol.routine (λ (number, _). values_of number)
-  pub Indicator-from_section : Gives M 1 (lent 0 tt u8 ∷ []) Indicator.from_section.clauses
-      Indicator.from_section.Symbol.routine (λ (section, _). indicator_of section)
+  pub sections_least_payload_of : Gives M 0 (value u64 ∷ []) (λ _. sections.least_payload_of.clauses) sections_code.least_payload_of.Symbol.code sections.least_payload_of.Key.name (λ (number, _). least_payload_of number)
+  pub sections_values_of : Gives M 0 (value u64 ∷ []) (λ _. sections.values_of.clauses) sections_code.values_of.Symbol.code sections.values_of.Key.name (λ (number, _). values_of number)
+  pub Indicator-from_section : Gives M 1 (lent 0 tt u8 ∷ []) (λ _. Indicator.from_section.clauses) IndicatorCode.from_section.Symbol.code Indicator.from_section.Key.name (λ (section, _). indicator_of section)
   pub Identification-from_payload : Gives M 1 (lent 0 tt u8 ∷ [])
-      Identification.from_payload.clauses Identification.from_payload.Symbol.routine
+      (λ _. Identification.from_payload.clauses) IdentificationCode.from_payload.Symbol.code Identification.from_payload.Key.name
       (λ (payload, _). identification_of payload)
   pub GridDefinition-from_payload : Gives M 1 (lent 0 tt u8 ∷ [])
-      GridDefinition.from_payload.clauses GridDefinition.from_payload.Symbol.routine
+      (λ _. GridDefinition.from_payload.clauses) GridDefinitionCode.from_payload.Symbol.code GridDefinition.from_payload.Key.name
       (λ (payload, _). grid_definition_of payload)
   pub ProdDefinition-from_payload : Gives M 1 (lent 0 tt u8 ∷ [])
-      ProdDefinition.from_payload.clauses ProdDefinition.from_payload.Symbol.routine
+      (λ _. ProdDefinition.from_payload.clauses) ProdDefinitionCode.from_payload.Symbol.code ProdDefinition.from_payload.Key.name
       (λ (payload, _). prod_definition_of payload)
   pub ReprDefinition-from_payload : Gives M 1 (lent 0 tt u8 ∷ [])
-      ReprDefinition.from_payload.clauses ReprDefinition.from_payload.Symbol.routine
+      (λ _. ReprDefinition.from_payload.clauses) ReprDefinitionCode.from_payload.Symbol.code ReprDefinition.from_payload.Key.name
       (λ (payload, _). repr_definition_of payload)
-  pub BitMap-from_payload : Gives M 1 (lent 0 tt u8 ∷ []) BitMap.from_payload.clauses
-      BitMap.from_payload.Symbol.routine (λ (payload, _). bit_map_of payload)
+  pub BitMap-from_payload : Gives M 1 (lent 0 tt u8 ∷ []) (λ _. BitMap.from_payload.clauses) BitMapCode.from_payload.Symbol.code BitMap.from_payload.Key.name (λ (payload, _). bit_map_of payload)
   -- products: where a template holds what, when and where, and the product fields, by a reading of
   -- our table and of a lent one
   pub products_offsets_at : Gives M 0 (value TemplateReading.the_row ∷ value u16 ∷ [])
-      products.offsets_at.clauses products.offsets_at.Symbol.routine
+      (λ _. products.offsets_at.clauses) products_code.offsets_at.Symbol.code products.offsets_at.Key.name
       (λ (reading, (template, _)). offsets_of reading template)
   pub products_offsets_by :
       Gives M 1 (lent 0 tt u32 ∷ value TemplateReading.the_row ∷ value u16 ∷ [])
-      products.offsets_by.clauses products.offsets_by.Symbol.routine
+      (λ _. products.offsets_by.clauses) products_code.offsets_by.Symbol.code products.offsets_by.Key.name
       (λ (rows, (reading, (template, _))). offsets_by rows reading template)
   pub products_when_and_where : Gives M 1 (value TemplateReading.the_row ∷ lent 0 tt u8 ∷ [])
-      products.when_and_where.clauses products.when_and_where.Symbol.routine
+      (λ _. products.when_and_where.clauses) products_code.when_and_where.Symbol.code products.when_and_where.Key.name
       (λ (reading, (payload, _)). when_where_of reading payload)
   pub products_product_of : Gives M 1 (value TemplateReading.the_row ∷ lent 0 tt u8 ∷ [])
-      products.product_of.clauses products.product_of.Symbol.routine
+      (λ _. products.product_of.clauses) products_code.product_of.Symbol.code products.product_of.Key.name
       (λ (reading, (payload, _)). product_of reading payload)
   pub products_product_by :
       Gives M 2 (lent 0 tt u32 ∷ value TemplateReading.the_row ∷ lent 1 tt u8 ∷ [])
-      products.product_by.clauses products.product_by.Symbol.routine
+      (λ _. products.product_by.clauses) products_code.product_by.Symbol.code products.product_by.Key.name
       (λ (rows, (reading, (payload, _))). product_by rows reading payload)
   -- framing: what stands at a cursor, and where the next message starts
   pub framing_framed_at : Gives M 1 (lent 0 tt u8 ∷ value Cursor.the_row ∷ [])
-      framing.framed_at.clauses framing.framed_at.Symbol.routine
+      (λ _. framing.framed_at.clauses) framing_code.framed_at.Symbol.code framing.framed_at.Key.name
       (λ (file, (cursor, _)). framed (read_at file cursor.at.0 cursor.rest))
-  pub framing_next_start : Gives M 1 (lent 0 tt u8 ∷ value usize ∷ []) framing.next_start.clauses
-      framing.next_start.Symbol.routine (λ (file, (at, _)). next_start file at)
+  pub framing_next_start : Gives M 1 (lent 0 tt u8 ∷ value usize ∷ []) (λ _. framing.next_start.clauses) framing_code.next_start.Symbol.code framing.next_start.Key.name (λ (file, (at, _)). next_start file at)
   -- order: which section may come next
-  pub order_judge : Gives M 0 (value Order.the_row ∷ value u64 ∷ []) order.judge.clauses
-      order.judge.Symbol.routine (λ (order, (number, _)). judged order number)
-  pub order_judge_read : Gives M 0 (value Order.the_row ∷ value u64 ∷ []) order.judge_read.clauses
-      order.judge_read.Symbol.routine (λ (order, (number, _)). judged_read order number)
-  pub order_completing : Gives M 0 (value Order.the_row ∷ value u64 ∷ []) order.completing.clauses
-      order.completing.Symbol.routine (λ (order, (number, _)). completes order number)
-  pub order_between_messages : Gives M 0 (value Order.the_row ∷ []) order.between_messages.clauses
-      order.between_messages.Symbol.routine (λ (order, _). is_between order)
-  pub order_judge_all : Gives M 1 (lent 0 tt u64 ∷ []) order.judge_all.clauses
-      order.judge_all.Symbol.routine (λ (numbers, _). order_of numbers)
+  pub order_judge : Gives M 0 (value Order.the_row ∷ value u64 ∷ []) (λ _. order.judge.clauses) order_code.judge.Symbol.code order.judge.Key.name (λ (order, (number, _)). judged order number)
+  pub order_judge_read : Gives M 0 (value Order.the_row ∷ value u64 ∷ []) (λ _. order.judge_read.clauses) order_code.judge_read.Symbol.code order.judge_read.Key.name (λ (order, (number, _)). judged_read order number)
+  pub order_completing : Gives M 0 (value Order.the_row ∷ value u64 ∷ []) (λ _. order.completing.clauses) order_code.completing.Symbol.code order.completing.Key.name (λ (order, (number, _)). completes order number)
+  pub order_between_messages : Gives M 0 (value Order.the_row ∷ []) (λ _. order.between_messages.clauses) order_code.between_messages.Symbol.code order.between_messages.Key.name (λ (order, _). is_between order)
+  pub order_judge_all : Gives M 1 (lent 0 tt u64 ∷ []) (λ _. order.judge_all.clauses) order_code.judge_all.Symbol.code order.judge_all.Key.name (λ (numbers, _). order_of numbers)
   -- index: what is in force, a submessage's line, and document 01's numbers
-  pub index_opened : Gives M 0 (value u64 ∷ []) index.opened.clauses index.opened.Symbol.routine
+  pub index_opened : Gives M 0 (value u64 ∷ []) (λ _. index.opened.clauses) index_code.opened.Symbol.code index.opened.Key.name
       (λ (message, _). opened message)
   pub index_in_force : Gives M 0 (value Force.the_row ∷ value u64 ∷ value Place.the_row ∷ [])
-      index.in_force.clauses index.in_force.Symbol.routine
+      (λ _. index.in_force.clauses) index_code.in_force.Symbol.code index.in_force.Key.name
       (λ (force, (number, (here, _))). in_force force number here)
   pub index_with_span : Gives M 0 (value Force.the_row ∷ value Span.the_row ∷ [])
-      index.with_span.clauses index.with_span.Symbol.routine
+      (λ _. index.with_span.clauses) index_code.with_span.Symbol.code index.with_span.Key.name
       (λ (force, (span, _)). with_span force span)
   pub index_with_submessage : Gives M 0 (value Force.the_row ∷ value u64 ∷ [])
-      index.with_submessage.clauses index.with_submessage.Symbol.routine
+      (λ _. index.with_submessage.clauses) index_code.with_submessage.Symbol.code index.with_submessage.Key.name
       (λ (force, (submessage, _)). with_submessage force submessage)
   pub index_line_of : Gives M 0 (value Force.the_row ∷ value MessageEnd.the_row ∷ [])
-      index.line_of.clauses index.line_of.Symbol.routine (λ (force, (end, _)). line_of force end)
-  pub index_unlisted : Gives M 0 [] index.unlisted.clauses index.unlisted.Symbol.routine
+      (λ _. index.line_of.clauses) index_code.line_of.Symbol.code index.line_of.Key.name (λ (force, (end, _)). line_of force end)
+  pub index_unlisted : Gives M 0 [] (λ _. index.unlisted.clauses) index_code.unlisted.Symbol.code index.unlisted.Key.name
       (λ _. unlisted)
-  pub index_end_of : Gives M 0 (value Outcome.the_row ∷ []) index.end_of.clauses
-      index.end_of.Symbol.routine (λ (outcome, _). end_of outcome)
-  pub index_stored : Gives M 0 (value u64 ∷ []) index.stored.clauses index.stored.Symbol.routine
+  pub index_end_of : Gives M 0 (value Outcome.the_row ∷ []) (λ _. index.end_of.clauses) index_code.end_of.Symbol.code index.end_of.Key.name (λ (outcome, _). end_of outcome)
+  pub index_stored : Gives M 0 (value u64 ∷ []) (λ _. index.stored.clauses) index_code.stored.Symbol.code index.stored.Key.name
       (λ (octets, _). stored octets)
-  pub index_unplaced : Gives M 0 (value u64 ∷ value u64 ∷ []) index.unplaced.clauses
-      index.unplaced.Symbol.routine (λ (outcome, (detail, _)). unplaced outcome detail)
+  pub index_unplaced : Gives M 0 (value u64 ∷ value u64 ∷ []) (λ _. index.unplaced.clauses) index_code.unplaced.Symbol.code index.unplaced.Key.name (λ (outcome, (detail, _)). unplaced outcome detail)
   -- reading: the one step
-  pub reading_start : Gives M 0 [] reading.start.clauses reading.start.Symbol.routine (λ _. start)
-  pub reading_look : Gives M 1 (lent 0 tt u8 ∷ value Reading.the_row ∷ []) reading.look.clauses
-      reading.look.Symbol.routine (λ (file, (reading, _)). seen file reading)
-  pub reading_glance : Gives M 1 (lent 0 tt u8 ∷ value Reading.the_row ∷ []) reading.glance.clauses
-      reading.glance.Symbol.routine (λ (file, (reading, _)). seen file reading)
+  pub reading_start : Gives M 0 [] (λ _. reading.start.clauses) reading_code.start.Symbol.code reading.start.Key.name (λ _. start)
+  pub reading_look : Gives M 1 (lent 0 tt u8 ∷ value Reading.the_row ∷ []) (λ _. reading.look.clauses) reading_code.look.Symbol.code reading.look.Key.name (λ (file, (reading, _)). seen file reading)
+  pub reading_glance : Gives M 1 (lent 0 tt u8 ∷ value Reading.the_row ∷ []) (λ _. reading.glance.clauses) reading_code.glance.Symbol.code reading.glance.Key.name (λ (file, (reading, _)). seen file reading)
   -- standing: a count, where a message and a walk stand behind a section, and the whole section
   -- table
-  pub standing_one_more : Gives M 0 (value u64 ∷ []) standing.one_more.clauses
-      standing.one_more.Symbol.routine (λ (n, _). one_more n)
+  pub standing_one_more : Gives M 0 (value u64 ∷ []) (λ _. standing.one_more.clauses) standing_code.one_more.Symbol.code standing.one_more.Key.name (λ (n, _). one_more n)
   pub standing_span_after :
       Gives M 0 (value Span.the_row ∷ value Section.the_row ∷ value Cursor.the_row ∷ [])
-      standing.span_after.clauses standing.span_after.Symbol.routine
+      (λ _. standing.span_after.clauses) standing_code.span_after.Symbol.code standing.span_after.Key.name
       (λ (before, (section, (next, _))). span_after before section next)
   pub standing_passed_row :
       Gives M 0 (value Standing.the_row ∷ value Section.the_row ∷ value Reading.the_row ∷ [])
-      standing.passed_row.clauses standing.passed_row.Symbol.routine
+      (λ _. standing.passed_row.clauses) standing_code.passed_row.Symbol.code standing.passed_row.Key.name
       (λ (at, (section, (next, _))). passed_row at section next)
   pub standing_put_row : Gives M 1 (lent_mut 0 tt u64 ∷ value u64 ∷ value Section.the_row ∷ [])
-      standing.put_row.clauses standing.put_row.Symbol.routine
+      (λ _. standing.put_row.clauses) standing_code.put_row.Symbol.code standing.put_row.Key.name
       (λ (rows, (place, (section, _))). (tt, row_put place section rows))
   -- walk: the answer and the whole of both tables
   pub walk_walk : Gives M 3 (lent 0 tt u8 ∷ lent_mut 1 tt u64 ∷ lent_mut 2 tt Line.the_row ∷ [])
-      walk.walk.clauses walk.walk.Symbol.routine
+      (λ _. walk.walk.clauses) walk_code.walk.Symbol.code walk.walk.Key.name
       (λ (file, (rows, (lines, _))). let tables = walk_of file rows lines in
       ((tables.answer, tables.rows), tables.lines))
   -- walk_numbers: the same, with lines as numbers
   pub walk_numbers_walk_numbers : Gives M 3
       (lent 0 tt u8 ∷ lent_mut 1 tt u64 ∷ lent_mut 2 tt u64 ∷ [])
-      walk_numbers.walk_numbers.clauses walk_numbers.walk_numbers.Symbol.routine
+      (λ _. walk_numbers.walk_numbers.clauses) walk_numbers_code.walk_numbers.Symbol.code walk_numbers.walk_numbers.Key.name
       (λ (file, (rows, (lines, _))). let told = walk_numbers file rows lines in
       ((told.answer, told.rows), told.lines))
   -- pull: of a reader the content of its file and its progress are taken and seen; `new` holds the
   -- very file that it was lent, and `next` keeps it
-  pub pull_first : Gives M 1 (lent 0 tt u8 ∷ []) pull.first.clauses pull.first.Symbol.routine
+  pub pull_first : Gives M 1 (lent 0 tt u8 ∷ []) (λ _. pull.first.clauses) pull_code.first.Symbol.code pull.first.Key.name
       (λ (file, _). first_of file)
-  pub pull_pull_at : Gives M 1 (lent 0 tt u8 ∷ value Progress.the_row ∷ []) pull.pull_at.clauses
-      pull.pull_at.Symbol.routine (λ (file, (progress, _)). pull_at file progress)
-  pub pull_new : Promised M pull.new.ended pull.new.clauses pull.new.Symbol.routine
+  pub pull_pull_at : Gives M 1 (lent 0 tt u8 ∷ value Progress.the_row ∷ []) (λ _. pull.pull_at.clauses) pull_code.pull_at.Symbol.code pull.pull_at.Key.name (λ (file, (progress, _)). pull_at file progress)
+  pub pull_new : Promised M pull.new.ended (λ _. pull.new.clauses) pull_code.new.Symbol.code pull.new.Key.name
       {O = List ℕ × Progress} (contents_of {n = 1} (lent 0 tt u8 ∷ []))
       (MayPassAll {n = 1} (lent 0 tt u8 ∷ []))
       (λ κs reader _. (reader.file.now, reader.progress)) (λ (file, _). (file, first_of file))
-  pub pull_new_holds : SeenIs M pull.new.ended pull.new.clauses
+  pub pull_new_holds : SeenIs M pull.new.ended (λ _. pull.new.clauses)
       (λ κs (file, _). file) (λ κs reader _. reader.file) (λ file. file)
-  pub pull-Reader_next : Promised M pull.Reader.next.ended pull.Reader.next.clauses
-      pull.Reader.next.Symbol.routine {O = Pulled × List ℕ × Progress}
+  pub pull-Reader_next : Promised M pull.Reader.next.ended (λ _. pull.Reader.next.clauses) pull_code.Reader.next.Symbol.code pull.Reader.next.Key.name {O = Pulled × List ℕ × Progress}
       (λ κs (reader, _). (reader.now.file.now, reader.now.progress))
       (λ (file, progress). MayPassAll {n = 1} (lent 0 tt u8 ∷ value Progress.the_row ∷ [])
       (file, (progress, tt)))
       (λ κs answer (reader, _). (answer, reader.now.file.now, reader.now.progress))
       (λ (file, progress). ((pull_at file progress).answer, file, (pull_at file progress).next))
-  pub pull-Reader_next_keeps : SeenIs M pull.Reader.next.ended pull.Reader.next.clauses
+  pub pull-Reader_next_keeps : SeenIs M pull.Reader.next.ended (λ _. pull.Reader.next.clauses)
       (λ κs (reader, _). reader.now.file) (λ κs _ (reader, _). reader.now.file) (λ file. file)
   -- publish: the answer and the whole destination
-  pub publish_publish : Gives M 2 (lent 0 tt u8 ∷ lent_mut 1 tt u8 ∷ []) publish.publish.clauses
-      publish.publish.Symbol.routine (λ (file, (dest, _)). let copied = copy_of licensed file dest in
+  pub publish_publish : Gives M 2 (lent 0 tt u8 ∷ lent_mut 1 tt u8 ∷ []) (λ _. publish.publish.clauses) publish_code.publish.Symbol.code publish.publish.Key.name (λ (file, (dest, _)). let copied = copy_of licensed file dest in
       (copied.answer, copied.dest))
-  pub publish_copy_end : Gives M 0 (value Published.the_row ∷ []) publish.copy_end.clauses
-      publish.copy_end.Symbol.routine (λ (answer, _). copy_end answer)
+  pub publish_copy_end : Gives M 0 (value Published.the_row ∷ []) (λ _. publish.copy_end.clauses) publish_code.copy_end.Symbol.code publish.copy_end.Key.name (λ (answer, _). copy_end answer)
   -- writer: the answer and the whole destination
   pub writer_write : Gives M 3 (value u8 ∷ value u8 ∷ value u8 ∷
-      lent 0 tt u64 ∷ lent 1 tt u8 ∷ lent_mut 2 tt u8 ∷ []) writer.write.clauses
-      writer.write.Symbol.routine
+      lent 0 tt u64 ∷ lent 1 tt u8 ∷ lent_mut 2 tt u8 ∷ []) (λ _. writer.write.clauses) writer_code.write.Symbol.code writer.write.Key.name
       (λ (discipline, (reserved₁, (reserved₂, (plan, (store, (dest, _)))))).
       let wrote = write_of discipline reserved₁ reserved₂ plan store dest in
       (wrote.answer, wrote.dest))
-  pub writer_write_end : Gives M 0 (value Written.the_row ∷ []) writer.write_end.clauses
-      writer.write_end.Symbol.routine (λ (answer, _). write_end answer)
+  pub writer_write_end : Gives M 0 (value Written.the_row ∷ []) (λ _. writer.write_end.clauses) writer_code.write_end.Symbol.code writer.write_end.Key.name (λ (answer, _). write_end answer)
   -- entries, inventory, lists: an entry's line; the answer and the whole buffer; the answer and the
   -- whole table
-  pub entries_spell : Gives M 0 (value Entry.the_row ∷ []) entries.spell.clauses
-      entries.spell.Symbol.routine (λ (entry, _). spelled_of entry)
+  pub entries_spell : Gives M 0 (value Entry.the_row ∷ []) (λ _. entries.spell.clauses) entries_code.spell.Symbol.code entries.spell.Key.name (λ (entry, _). spelled_of entry)
   pub inventory_inventory : Gives M 2 (lent 0 tt u8 ∷ lent_mut 1 tt u8 ∷ [])
-      inventory.inventory.clauses inventory.inventory.Symbol.routine
+      (λ _. inventory.inventory.clauses) inventory_code.inventory.Symbol.code inventory.inventory.Key.name
       (λ (file, (text, _)). let wrote = inventory_of file text in (wrote.answer, wrote.text))
   pub inventory_inventory_end : Gives M 0 (value Inventoried.the_row ∷ [])
-      inventory.inventory_end.clauses inventory.inventory_end.Symbol.routine
+      (λ _. inventory.inventory_end.clauses) inventory_code.inventory_end.Symbol.code inventory.inventory_end.Key.name
       (λ (answer, _). inventory_end answer)
-  pub lists_read_list : Gives M 2 (lent 0 tt u8 ∷ lent_mut 1 tt u64 ∷ []) lists.read_list.clauses
-      lists.read_list.Symbol.routine (λ (text, (table, _)). let stored = read_of text table in
+  pub lists_read_list : Gives M 2 (lent 0 tt u8 ∷ lent_mut 1 tt u64 ∷ []) (λ _. lists.read_list.clauses) lists_code.read_list.Symbol.code lists.read_list.Key.name (λ (text, (table, _)). let stored = read_of text table in
       (stored.answer, stored.table))
-  pub lists_list_end : Gives M 0 (value ListEnd.the_row ∷ []) lists.list_end.clauses
-      lists.list_end.Symbol.routine (λ (end, _). list_end end)
+  pub lists_list_end : Gives M 0 (value ListEnd.the_row ∷ []) (λ _. lists.list_end.clauses) lists_code.list_end.Symbol.code lists.list_end.Key.name (λ (end, _). list_end end)
   -- requests: the request at a place of an input
   pub requests_request_at : Gives M 1 (lent 0 tt u8 ∷ value usize ∷ [])
-      requests.request_at.clauses requests.request_at.Symbol.routine
+      (λ _. requests.request_at.clauses) requests_code.request_at.Symbol.code requests.request_at.Key.name
       (λ (input, (at, _)). request_at input at)
   -- buttresk, the C face: the walk in numbers, the copy, the message, the inventory, a list, the
   -- fields
   pub buttresk_walk : Gives M 3 (lent 0 tt u8 ∷ lent_mut 1 tt u64 ∷ lent_mut 2 tt u64 ∷ [])
-      buttresk.buttresk_walk.clauses buttresk.buttresk_walk.Symbol.routine
+      (λ _. buttresk.buttresk_walk.clauses) buttresk_code.buttresk_walk.Symbol.code buttresk.buttresk_walk.Key.name
       (λ (file, (rows, (lines, _))). let told = walk_numbers file rows lines in
       ((told.answer, told.rows), told.lines))
   pub buttresk_publish : Gives M 2 (lent 0 tt u8 ∷ lent_mut 1 tt u8 ∷ [])
-      buttresk.buttresk_publish.clauses buttresk.buttresk_publish.Symbol.routine
+      (λ _. buttresk.buttresk_publish.clauses) buttresk_code.buttresk_publish.Symbol.code buttresk.buttresk_publish.Key.name
       (λ (file, (dest, _)). let copied = copy_of licensed file dest in
       (five_of (copy_end copied.answer), copied.dest))
   pub buttresk_write : Gives M 3 (value u8 ∷ value u8 ∷ value u8 ∷
-      lent 0 tt u64 ∷ lent 1 tt u8 ∷ lent_mut 2 tt u8 ∷ []) buttresk.buttresk_write.clauses
-      buttresk.buttresk_write.Symbol.routine
+      lent 0 tt u64 ∷ lent 1 tt u8 ∷ lent_mut 2 tt u8 ∷ []) (λ _. buttresk.buttresk_write.clauses) buttresk_code.buttresk_write.Symbol.code buttresk.buttresk_write.Key.name
       (λ (discipline, (reserved₁, (reserved₂, (plan, (store, (dest, _)))))).
       let wrote = write_of discipline reserved₁ reserved₂ plan store dest in
       (five_of (write_end wrote.answer), wrote.dest))
   pub buttresk_inventory : Gives M 2 (lent 0 tt u8 ∷ lent_mut 1 tt u8 ∷ [])
-      buttresk.buttresk_inventory.clauses buttresk.buttresk_inventory.Symbol.routine
+      (λ _. buttresk.buttresk_inventory.clauses) buttresk_code.buttresk_inventory.Symbol.code buttresk.buttresk_inventory.Key.name
       (λ (file, (text, _)). let wrote = inventory_of file text in
       (five_of (inventory_end wrote.answer), wrote.text))
   pub buttresk_read_list : Gives M 2 (lent 0 tt u8 ∷ lent_mut 1 tt u64 ∷ [])
-      buttresk.buttresk_read_list.clauses buttresk.buttresk_read_list.Symbol.routine
+      (λ _. buttresk.buttresk_read_list.clauses) buttresk_code.buttresk_read_list.Symbol.code buttresk.buttresk_read_list.Key.name
       (λ (text, (table, _)). let stored = read_of text table in
       (read_answer_of stored.answer, stored.table))
-  pub buttresk_indicator : Gives M 1 (lent 0 tt u8 ∷ []) buttresk.buttresk_indicator.clauses
-      buttresk.buttresk_indicator.Symbol.routine
+  pub buttresk_indicator : Gives M 1 (lent 0 tt u8 ∷ []) (λ _. buttresk.buttresk_indicator.clauses) buttresk_code.buttresk_indicator.Symbol.code buttresk.buttresk_indicator.Key.name
       (λ (section, _). indicator_fields (indicator_of section))
   pub buttresk_identification : Gives M 1 (lent 0 tt u8 ∷ [])
-      buttresk.buttresk_identification.clauses buttresk.buttresk_identification.Symbol.routine
+      (λ _. buttresk.buttresk_identification.clauses) buttresk_code.buttresk_identification.Symbol.code buttresk.buttresk_identification.Key.name
       (λ (payload, _). identification_fields (identification_of payload))
   pub buttresk_grid_definition : Gives M 1 (lent 0 tt u8 ∷ [])
-      buttresk.buttresk_grid_definition.clauses buttresk.buttresk_grid_definition.Symbol.routine
+      (λ _. buttresk.buttresk_grid_definition.clauses) buttresk_code.buttresk_grid_definition.Symbol.code buttresk.buttresk_grid_definition.Key.name
       (λ (payload, _). grid_fields (grid_definition_of payload))
   pub buttresk_product_definition : Gives M 1 (value u64 ∷ lent 0 tt u8 ∷ [])
-      buttresk.buttresk_product_definition.clauses
-      buttresk.buttresk_product_definition.Symbol.routine
+      (λ _. buttresk.buttresk_product_definition.clauses) buttresk_code.buttresk_product_definition.Symbol.code buttresk.buttresk_product_definition.Key.name
       (λ (reading, (payload, _)). product_fields reading payload)
   pub buttresk_when_and_where : Gives M 1 (value u64 ∷ lent 0 tt u8 ∷ [])
-      buttresk.buttresk_when_and_where.clauses buttresk.buttresk_when_and_where.Symbol.routine
+      (λ _. buttresk.buttresk_when_and_where.clauses) buttresk_code.buttresk_when_and_where.Symbol.code buttresk.buttresk_when_and_where.Key.name
       (λ (reading, (payload, _)). when_where_fields reading payload)
   pub buttresk_representation : Gives M 1 (lent 0 tt u8 ∷ [])
-      buttresk.buttresk_representation.clauses buttresk.buttresk_representation.Symbol.routine
+      (λ _. buttresk.buttresk_representation.clauses) buttresk_code.buttresk_representation.Symbol.code buttresk.buttresk_representation.Key.name
       (λ (payload, _). representation_fields (repr_definition_of payload))
-  pub buttresk_bit_map : Gives M 1 (lent 0 tt u8 ∷ []) buttresk.buttresk_bit_map.clauses
-      buttresk.buttresk_bit_map.Symbol.routine (λ (payload, _). bit_map_fields (bit_map_of payload))
+  pub buttresk_bit_map : Gives M 1 (lent 0 tt u8 ∷ []) (λ _. buttresk.buttresk_bit_map.clauses) buttresk_code.buttresk_bit_map.Symbol.code buttresk.buttresk_bit_map.Key.name (λ (payload, _). bit_map_fields (bit_map_of payload))
 
 -- in memory of every kind
 abbrev pub EachGivesItsDefinition : Type 2
