@@ -5,8 +5,8 @@ use mathlib.Core.List.{List, [], ◌∷◌}
 use mathlib.Core.Path.{refl, ap}
 use mathlib.Core.Logic.{∥∥₁_prop, ∥∥₁_elim, ∥∥₁_map}
 use seplogic.Ra.Ura.{Ura}
-use seplogic.Ra.TreeShare.PosShare
-use seplogic.Ra.TreeShare.{full_share}
+use base.Fraction as Share
+use base.Fraction.{full_share}
 use mir.Syntax.{named}
 use mir.Val.{Val, vptr, vstruct, of_list}
 use base.Logic.{SProp, ent, sep, emp, via, comm∗, mono∗, mono_l, mono_r, fst∗, snd∗, emp∗, ex_i}
@@ -26,9 +26,10 @@ use denote.Signature.{named_lft}
 use denote.Struct.Declared.{Declared, fields, row, shape}
 use denote.Struct.Laws.{lawful}
 use denote.Struct.Struct.{layout, within}
-use Rattle.pull.proofs as pull
+use Rattle.pull.specs.contracts as pull
 use Rattle.pull.specs.contracts.Progress as Progress
-use Rattle.pull.proofs.Reader as Reader
+use Rattle.pull.specs.contracts.Reader as Reader
+use Rattle.pull.proofs.Reader.TheLaws as ReaderLaws
 use Rattle.pull.specs.declared.Progress.{Progress}
 use Rattle.promises.specs.Contract.{CanBeCalled}
 use Rattle.promises.specs.Parameters.{Parameter, value, lent, MayPassAll}
@@ -50,7 +51,7 @@ shared_out 𝓤 own token left right split =
     (pad (sep 𝓤 (sep 𝓤 left (sep 𝓤 right (emp 𝓤))) (sep 𝓤 own (emp 𝓤))))))
 
 module _ {M : Type 1} (known : KnownAll parts) where
-  pub next_can_be_called : CanBeCalled M pull.Reader.next.ended pull.Reader.next.clauses
+  pub next_can_be_called : CanBeCalled M pull.Reader.next.ended (λ _. pull.Reader.next.clauses)
       (λ κs (reader, _). (reader.now.file.now, reader.now.progress))
       (λ (file, progress). MayPassAll {n = 1} (lent 0 tt u8 ∷ value Progress.the_row ∷ []) (file, (progress, tt)))
   unfolding part_of
@@ -70,7 +71,7 @@ module _ {M : Type 1} (known : KnownAll parts) where
       (via 𝓤 (sep 𝓤 (sem 𝓛 held) tokens) (snd∗ 𝓤 (𝓜.mem r.memory) (sep 𝓤 (sem 𝓛 held) tokens))
       (via 𝓤 (sem 𝓛 held) (fst∗ 𝓤 (sem 𝓛 held) tokens) (shows_shadow 𝓛 held))) r.hold) ∥∥₁_prop λ s.
       let is : Is R d (v ∷ []) = (r.values, (refl, s)) in
-      let typed = (lawful T (Reader.TheLaws.the_laws (named_lft 2 1 tt κs)) 𝓛).typed d (v ∷ []) is in
+      let typed = (lawful T (ReaderLaws.the_laws (named_lft 2 1 tt κs)) 𝓛).typed d (v ∷ []) is in
       let Kept : SProp 𝓤 = sem 𝓛 (R.own_val d (v ∷ [])) in
       ∥∥₁_elim (put 𝓛 𝓜 (layout (shape T)) R.own_val d v typed.0.0 typed.0.1 r.memory tokens
       (sat_weaken 𝓤 𝓛.H 𝓜 r.memory (mono_l 𝓤 tokens
@@ -83,11 +84,11 @@ module _ {M : Type 1} (known : KnownAll parts) where
       (lends_ref 𝓛 R (named 0) κ d b zero) m.2) λ g.
       let reader : MutBor R.Denot = record { ref_ptr = (b, zero); ghost_name = g.0; now = d } in
       let own : SProp 𝓤 = sem 𝓛 ((MutRef (named 0) κ R).own_val reader (vptr b zero ∷ [])) in
-      let left : SProp 𝓤 = A.lft κ (PosShare.left full_share) in
-      let right : SProp 𝓤 = A.lft κ (PosShare.right full_share) in
+      let left : SProp 𝓤 = A.lft κ (Share.left full_share) in
+      let right : SProp 𝓤 = A.lft κ (Share.right full_share) in
       record {
         memory = m.0;
-        bound = (κs, (PosShare.left full_share, (PosShare.right full_share, tt)), (Incl-refl κ, tt), (reader, tt), (vptr b zero ∷ [], tt));
+        bound = (κs, (Share.left full_share, (Share.right full_share, tt)), (Incl-refl κ, tt), (reader, tt), (vptr b zero ∷ [], tt));
         ghost = tt;
         is_taken = ap (λ (c : List ℕ × (Progress × Unit {0})). (c.0, c.1.0)) r.are;
         enters = sat_weaken 𝓤 𝓛.H 𝓜 m.0 (shared_out 𝓤 own (A.lft κ full_share) left right (𝓛.lfts.lft_split κ full_share)) g.1;
