@@ -95,8 +95,8 @@ plain_number w = record { pure = λ n vs. (tt, tt) }
 number : (w : Width) → Element (UInt w)
 number w = record { plain = plain_number w; single = tt; lawful = λ 𝓛. uint_Lawful 𝓛 w }
 
-read_number : (w : Width) → Readable (UInt w)
-read_number w = record {
+read : (w : Width) → Readable (UInt w)
+read w = record {
   element = number w;
   lends = λ 𝓛 n b o. (uint_Copied 𝓛 w).lends full_share n b o;
 }
@@ -187,53 +187,53 @@ module _ {M : Type 1} where
         (λ 𝓤 𝓛 content run κs a. tt) octets.be32.Met.met (λ n r e. id⊢ n.memory _);
     octets_be64 = by 0 (by_value (plain_array _ 8 (plain_number w8)) ∷ []) (λ n. refl)
         (λ 𝓤 𝓛 content run κs a. tt) octets.be64.Met.met (λ n r e. id⊢ n.memory _);
-    octets_sign_and_size = by 1 (to_read 0 tt (read_number w8) ∷ []) (λ n. refl)
+    octets_sign_and_size = by 1 (to_read 0 tt (read w8) ∷ []) (λ n. refl)
         (λ 𝓤 𝓛 content run κs a. tt) octets.sign_and_size.Met.met (λ n r e. id⊢ n.memory _);
     sections_least_payload_of = by 0 (by_value (plain_number w64) ∷ []) (λ n. refl)
         (λ 𝓤 𝓛 content run κs a. tt) sections.least_payload_of.Met.met
         (λ n r e. id⊢ n.memory _);
     sections_values_of = by 0 (by_value (plain_number w64) ∷ []) (λ n. refl)
         (λ 𝓤 𝓛 content run κs a. tt) sections.values_of.Met.met (λ n r e. id⊢ n.memory _);
-    Indicator-from_section = by 1 (to_read 0 tt (read_number w8) ∷ []) (λ n. refl)
+    Indicator-from_section = by 1 (to_read 0 tt (read w8) ∷ []) (λ n. refl)
         (λ 𝓤 𝓛 content run κs a. tt) Indicator.from_section.Met.met (λ n r e. id⊢ n.memory _);
-    Identification-from_payload = by 1 (to_read 0 tt (read_number w8) ∷ []) (λ n. refl)
+    Identification-from_payload = by 1 (to_read 0 tt (read w8) ∷ []) (λ n. refl)
         (λ 𝓤 𝓛 content run κs a. tt) Identification.from_payload.Met.met
         (λ n r e. id⊢ n.memory _);
-    GridDefinition-from_payload = by 1 (to_read 0 tt (read_number w8) ∷ []) (λ n. refl)
+    GridDefinition-from_payload = by 1 (to_read 0 tt (read w8) ∷ []) (λ n. refl)
         (λ 𝓤 𝓛 content run κs a. tt) GridDefinition.from_payload.Met.met
         (λ n r e. id⊢ n.memory _);
-    ProdDefinition-from_payload = by 1 (to_read 0 tt (read_number w8) ∷ []) (λ n. refl)
+    ProdDefinition-from_payload = by 1 (to_read 0 tt (read w8) ∷ []) (λ n. refl)
         (λ 𝓤 𝓛 content run κs a. tt) ProdDefinition.from_payload.Met.met
         (λ n r e. id⊢ n.memory _);
-    ReprDefinition-from_payload = by 1 (to_read 0 tt (read_number w8) ∷ []) (λ n. refl)
+    ReprDefinition-from_payload = by 1 (to_read 0 tt (read w8) ∷ []) (λ n. refl)
         (λ 𝓤 𝓛 content run κs a. tt) ReprDefinition.from_payload.Met.met
         (λ n r e. id⊢ n.memory _);
-    BitMap-from_payload = by 1 (to_read 0 tt (read_number w8) ∷ []) (λ n. refl)
+    BitMap-from_payload = by 1 (to_read 0 tt (read w8) ∷ []) (λ n. refl)
         (λ 𝓤 𝓛 content run κs a. tt) BitMap.from_payload.Met.met (λ n r e. id⊢ n.memory _);
     products_offsets_at =
         by 0 (by_value plain-TemplateReading ∷ by_value (plain_number w16) ∷ []) (λ n. refl)
         (λ 𝓤 𝓛 content run κs a. tt) products.offsets_at.Met.met (λ n r e. id⊢ n.memory _);
     products_offsets_by =
         by 1
-        (to_read 0 tt (read_number w32) ∷ by_value plain-TemplateReading ∷ by_value (plain_number w16)
+        (to_read 0 tt (read w32) ∷ by_value plain-TemplateReading ∷ by_value (plain_number w16)
         ∷ [])
         (λ n. refl) (λ 𝓤 𝓛 content run κs a. tt) products.offsets_by.Met.met
         (λ n r e. id⊢ n.memory _);
     products_when_and_where =
-        by 1 (by_value plain-TemplateReading ∷ to_read 0 tt (read_number w8) ∷ []) (λ n. refl)
+        by 1 (by_value plain-TemplateReading ∷ to_read 0 tt (read w8) ∷ []) (λ n. refl)
         (λ 𝓤 𝓛 content run κs a. tt) products.when_and_where.Met.met
         (λ n r e. id⊢ n.memory _);
     products_product_by =
         by 2
-        (to_read 0 tt (read_number w32) ∷ by_value plain-TemplateReading ∷ to_read 1 tt (read_number w8) ∷ [])
+        (to_read 0 tt (read w32) ∷ by_value plain-TemplateReading ∷ to_read 1 tt (read w8) ∷ [])
         (λ n. refl) (λ 𝓤 𝓛 content run κs a. tt) products.product_by.Met.met
         (λ n r e. id⊢ n.memory _);
     products_product_of =
-        by 1 (by_value plain-TemplateReading ∷ to_read 0 tt (read_number w8) ∷ []) (λ n. refl)
+        by 1 (by_value plain-TemplateReading ∷ to_read 0 tt (read w8) ∷ []) (λ n. refl)
         (λ 𝓤 𝓛 content run κs a. tt) products.product_of.Met.met (λ n r e. id⊢ n.memory _);
-    framing_framed_at = by 1 (to_read 0 tt (read_number w8) ∷ by_value plain-Cursor ∷ []) (λ n. refl)
+    framing_framed_at = by 1 (to_read 0 tt (read w8) ∷ by_value plain-Cursor ∷ []) (λ n. refl)
         (λ 𝓤 𝓛 content run κs a. tt) framing.framed_at.Met.met (λ n r e. id⊢ n.memory _);
-    framing_next_start = by 1 (to_read 0 tt (read_number w8) ∷ by_value (plain_number w64) ∷ [])
+    framing_next_start = by 1 (to_read 0 tt (read w8) ∷ by_value (plain_number w64) ∷ [])
         (λ n. refl) (λ 𝓤 𝓛 content run κs a. tt) framing.next_start.Met.met
         (λ n r e. fact_mono n.memory _ _
         (next_start_is n.arguments.0.now n.arguments.1.0 r));
@@ -245,7 +245,7 @@ module _ {M : Type 1} where
         (λ 𝓤 𝓛 content run κs a. tt) order.completing.Met.met (λ n r e. id⊢ n.memory _);
     order_between_messages = by 0 (by_value plain-Order ∷ []) (λ n. refl)
         (λ 𝓤 𝓛 content run κs a. tt) order.between_messages.Met.met (λ n r e. id⊢ n.memory _);
-    order_judge_all = by 1 (to_read 0 tt (read_number w64) ∷ []) (λ n. refl)
+    order_judge_all = by 1 (to_read 0 tt (read w64) ∷ []) (λ n. refl)
         (λ 𝓤 𝓛 content run κs a. tt) order.judge_all.Met.met (λ n r e. id⊢ n.memory _);
     index_opened = by 0 (by_value (plain_number w64) ∷ []) (λ n. refl)
         (λ 𝓤 𝓛 content run κs a. tt) index.opened.Met.met (λ n r e. id⊢ n.memory _);
@@ -270,9 +270,9 @@ module _ {M : Type 1} where
         (λ n r e. id⊢ n.memory _);
     reading_start = by 0 [] (λ n. refl) (λ 𝓤 𝓛 content run κs a. tt) reading.start.Met.met
         (λ n r e. id⊢ n.memory _);
-    reading_look = by 1 (to_read 0 tt (read_number w8) ∷ by_value plain-Reading ∷ []) (λ n. refl)
+    reading_look = by 1 (to_read 0 tt (read w8) ∷ by_value plain-Reading ∷ []) (λ n. refl)
         (λ 𝓤 𝓛 content run κs a. tt) reading.look.Met.met (λ n r e. id⊢ n.memory _);
-    reading_glance = by 1 (to_read 0 tt (read_number w8) ∷ by_value plain-Reading ∷ []) (λ n. refl)
+    reading_glance = by 1 (to_read 0 tt (read w8) ∷ by_value plain-Reading ∷ []) (λ n. refl)
         (λ 𝓤 𝓛 content run κs a. tt) reading.glance.Met.met (λ n r e. id⊢ n.memory _);
     standing_one_more = by 0 (by_value (plain_number w64) ∷ []) (λ n. refl)
         (λ 𝓤 𝓛 content run κs a. tt) standing.one_more.Met.met (λ n r e. id⊢ n.memory _);
@@ -287,91 +287,91 @@ module _ {M : Type 1} where
         (λ n. refl) (λ 𝓤 𝓛 content run κs a. tt) standing.put_row.Met.met
         (λ n r e. fact_mono n.memory _ _ (λ same. ap (λ (rows : List ℕ). (r, rows)) same));
     walk_walk = by 3
-        (to_read 0 tt (read_number w8) ∷ to_write 1 tt (number w64) ∷ to_write 2 tt line ∷ [])
+        (to_read 0 tt (read w8) ∷ to_write 1 tt (number w64) ∷ to_write 2 tt line ∷ [])
         (λ n. refl) (λ 𝓤 𝓛 content run κs a. tt) walk.walk.Met.met
         (λ n r e. three n.memory (λ answer rows lines. ((answer, rows), lines)));
     walk_numbers_walk_numbers = by 3
-        (to_read 0 tt (read_number w8) ∷ to_write 1 tt (number w64) ∷ to_write 2 tt (number w64) ∷ [])
+        (to_read 0 tt (read w8) ∷ to_write 1 tt (number w64) ∷ to_write 2 tt (number w64) ∷ [])
         (λ n. refl) (λ 𝓤 𝓛 content run κs a. tt) walk_numbers.walk_numbers.Met.met
         (λ n r e. three n.memory (λ answer rows lines. ((answer, rows), lines)));
-    pull_first = by 1 (to_read 0 tt (read_number w8) ∷ []) (λ n. refl) (λ 𝓤 𝓛 content run κs a. tt)
+    pull_first = by 1 (to_read 0 tt (read w8) ∷ []) (λ n. refl) (λ 𝓤 𝓛 content run κs a. tt)
         pull.first.Met.met (λ n r e. id⊢ n.memory _);
-    pull_pull_at = by 1 (to_read 0 tt (read_number w8) ∷ by_value plain-Progress ∷ []) (λ n. refl)
+    pull_pull_at = by 1 (to_read 0 tt (read w8) ∷ by_value plain-Progress ∷ []) (λ n. refl)
         (λ 𝓤 𝓛 content run κs a. tt) pull.pull_at.Met.met (λ n r e. id⊢ n.memory _);
-    pull_new = by 1 (to_read 0 tt (read_number w8) ∷ []) (λ n. refl) (λ 𝓤 𝓛 content run κs a. tt)
+    pull_new = by 1 (to_read 0 tt (read w8) ∷ []) (λ n. refl) (λ 𝓤 𝓛 content run κs a. tt)
         pull.new.Met.met (λ n r e. fact_mono n.memory _ _ (λ h. one_reader h.0 h.1));
     pull_new_holds = λ n r e. fact_mono n.memory _ _ (λ h. h.0);
     pull-Reader_next =
-        promised (λ n. refl) (next_can_be_called (read_number w8, (plain-Progress, tt)))
+        promised (λ n. refl) (next_can_be_called (read w8, (plain-Progress, tt)))
         pull.Reader.next.Met.met
         (λ n r e. fact_mono n.memory _ _ (λ h. one_turn h.0 h.1.0 h.1.1));
     pull-Reader_next_keeps = λ n r e. fact_mono n.memory _ _ (λ h. h.1.0);
-    publish_publish = by 2 (to_read 0 tt (read_number w8) ∷ to_write 1 tt (number w8) ∷ []) (λ n. refl)
+    publish_publish = by 2 (to_read 0 tt (read w8) ∷ to_write 1 tt (number w8) ∷ []) (λ n. refl)
         (λ 𝓤 𝓛 content run κs a. tt) publish.publish.Met.met
         (λ n r e. both n.memory (λ answer dest. (answer, dest)));
     publish_copy_end = by 0 (by_value plain-Published ∷ []) (λ n. refl)
         (λ 𝓤 𝓛 content run κs a. tt) publish.copy_end.Met.met (λ n r e. id⊢ n.memory _);
     writer_write = by 3
         (by_value (plain_number w8) ∷ by_value (plain_number w8) ∷ by_value (plain_number w8)
-        ∷ to_read 0 tt (read_number w64) ∷ to_read 1 tt (read_number w8) ∷ to_write 2 tt (number w8) ∷ [])
+        ∷ to_read 0 tt (read w64) ∷ to_read 1 tt (read w8) ∷ to_write 2 tt (number w8) ∷ [])
         (λ n. refl) (λ 𝓤 𝓛 content run κs a. tt) writer.write.Met.met
         (λ n r e. both n.memory (λ answer dest. (answer, dest)));
     writer_write_end = by 0 (by_value plain-Written ∷ []) (λ n. refl) (λ 𝓤 𝓛 content run κs a. tt)
         writer.write_end.Met.met (λ n r e. id⊢ n.memory _);
     entries_spell = by 0 (by_value plain-Entry ∷ []) (λ n. refl) (λ 𝓤 𝓛 content run κs a. tt)
         entries.spell.Met.met (λ n r e. id⊢ n.memory _);
-    inventory_inventory = by 2 (to_read 0 tt (read_number w8) ∷ to_write 1 tt (number w8) ∷ [])
+    inventory_inventory = by 2 (to_read 0 tt (read w8) ∷ to_write 1 tt (number w8) ∷ [])
         (λ n. refl) (λ 𝓤 𝓛 content run κs a. tt) inventory.inventory.Met.met
         (λ n r e. both n.memory (λ answer dest. (answer, dest)));
     inventory_inventory_end = by 0 (by_value plain-Inventoried ∷ []) (λ n. refl)
         (λ 𝓤 𝓛 content run κs a. tt) inventory.inventory_end.Met.met (λ n r e. id⊢ n.memory _);
-    lists_read_list = by 2 (to_read 0 tt (read_number w8) ∷ to_write 1 tt (number w64) ∷ []) (λ n. refl)
+    lists_read_list = by 2 (to_read 0 tt (read w8) ∷ to_write 1 tt (number w64) ∷ []) (λ n. refl)
         (λ 𝓤 𝓛 content run κs a. tt) lists.read_list.Met.met
         (λ n r e. both n.memory (λ answer dest. (answer, dest)));
     lists_list_end = by 0 (by_value plain-ListEnd ∷ []) (λ n. refl) (λ 𝓤 𝓛 content run κs a. tt)
         lists.list_end.Met.met (λ n r e. id⊢ n.memory _);
-    requests_request_at = by 1 (to_read 0 tt (read_number w8) ∷ by_value (plain_number w64) ∷ [])
+    requests_request_at = by 1 (to_read 0 tt (read w8) ∷ by_value (plain_number w64) ∷ [])
         (λ n. refl) (λ 𝓤 𝓛 content run κs a. tt) requests.request_at.Met.met
         (λ n r e. id⊢ n.memory _);
     buttresk_walk = by 3
-        (to_read 0 tt (read_number w8) ∷ to_write 1 tt (number w64) ∷ to_write 2 tt (number w64) ∷ [])
+        (to_read 0 tt (read w8) ∷ to_write 1 tt (number w64) ∷ to_write 2 tt (number w64) ∷ [])
         (λ n. refl) (λ 𝓤 𝓛 content run κs a. tt) buttresk.buttresk_walk.Met.met
         (λ n r e. three n.memory (λ answer rows lines. ((answer, rows), lines)));
-    buttresk_publish = by 2 (to_read 0 tt (read_number w8) ∷ to_write 1 tt (number w8) ∷ []) (λ n. refl)
+    buttresk_publish = by 2 (to_read 0 tt (read w8) ∷ to_write 1 tt (number w8) ∷ []) (λ n. refl)
         (λ 𝓤 𝓛 content run κs a. tt) buttresk.buttresk_publish.Met.met
         (λ n r e. both n.memory (λ answer dest. (answer, dest)));
     buttresk_write = by 3
         (by_value (plain_number w8) ∷ by_value (plain_number w8) ∷ by_value (plain_number w8)
-        ∷ to_read 0 tt (read_number w64) ∷ to_read 1 tt (read_number w8) ∷ to_write 2 tt (number w8) ∷ [])
+        ∷ to_read 0 tt (read w64) ∷ to_read 1 tt (read w8) ∷ to_write 2 tt (number w8) ∷ [])
         (λ n. refl) (λ 𝓤 𝓛 content run κs a. tt) buttresk.buttresk_write.Met.met
         (λ n r e. both n.memory (λ answer dest. (answer, dest)));
-    buttresk_inventory = by 2 (to_read 0 tt (read_number w8) ∷ to_write 1 tt (number w8) ∷ [])
+    buttresk_inventory = by 2 (to_read 0 tt (read w8) ∷ to_write 1 tt (number w8) ∷ [])
         (λ n. refl) (λ 𝓤 𝓛 content run κs a. tt) buttresk.buttresk_inventory.Met.met
         (λ n r e. both n.memory (λ answer dest. (answer, dest)));
-    buttresk_read_list = by 2 (to_read 0 tt (read_number w8) ∷ to_write 1 tt (number w64) ∷ [])
+    buttresk_read_list = by 2 (to_read 0 tt (read w8) ∷ to_write 1 tt (number w64) ∷ [])
         (λ n. refl) (λ 𝓤 𝓛 content run κs a. tt) buttresk.buttresk_read_list.Met.met
         (λ n r e. both n.memory (λ answer dest. (answer, dest)));
-    buttresk_indicator = by 1 (to_read 0 tt (read_number w8) ∷ []) (λ n. refl)
+    buttresk_indicator = by 1 (to_read 0 tt (read w8) ∷ []) (λ n. refl)
         (λ 𝓤 𝓛 content run κs a. tt) buttresk.buttresk_indicator.Met.met
         (λ n r e. id⊢ n.memory _);
-    buttresk_identification = by 1 (to_read 0 tt (read_number w8) ∷ []) (λ n. refl)
+    buttresk_identification = by 1 (to_read 0 tt (read w8) ∷ []) (λ n. refl)
         (λ 𝓤 𝓛 content run κs a. tt) buttresk.buttresk_identification.Met.met
         (λ n r e. id⊢ n.memory _);
-    buttresk_grid_definition = by 1 (to_read 0 tt (read_number w8) ∷ []) (λ n. refl)
+    buttresk_grid_definition = by 1 (to_read 0 tt (read w8) ∷ []) (λ n. refl)
         (λ 𝓤 𝓛 content run κs a. tt) buttresk.buttresk_grid_definition.Met.met
         (λ n r e. id⊢ n.memory _);
     buttresk_product_definition =
-        by 1 (by_value (plain_number w64) ∷ to_read 0 tt (read_number w8) ∷ []) (λ n. refl)
+        by 1 (by_value (plain_number w64) ∷ to_read 0 tt (read w8) ∷ []) (λ n. refl)
         (λ 𝓤 𝓛 content run κs a. tt) buttresk.buttresk_product_definition.Met.met
         (λ n r e. id⊢ n.memory _);
     buttresk_when_and_where =
-        by 1 (by_value (plain_number w64) ∷ to_read 0 tt (read_number w8) ∷ []) (λ n. refl)
+        by 1 (by_value (plain_number w64) ∷ to_read 0 tt (read w8) ∷ []) (λ n. refl)
         (λ 𝓤 𝓛 content run κs a. tt) buttresk.buttresk_when_and_where.Met.met
         (λ n r e. id⊢ n.memory _);
-    buttresk_representation = by 1 (to_read 0 tt (read_number w8) ∷ []) (λ n. refl)
+    buttresk_representation = by 1 (to_read 0 tt (read w8) ∷ []) (λ n. refl)
         (λ 𝓤 𝓛 content run κs a. tt) buttresk.buttresk_representation.Met.met
         (λ n r e. id⊢ n.memory _);
-    buttresk_bit_map = by 1 (to_read 0 tt (read_number w8) ∷ []) (λ n. refl)
+    buttresk_bit_map = by 1 (to_read 0 tt (read w8) ∷ []) (λ n. refl)
         (λ 𝓤 𝓛 content run κs a. tt) buttresk.buttresk_bit_map.Met.met
         (λ n r e. id⊢ n.memory _);
   }

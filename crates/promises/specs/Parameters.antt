@@ -66,13 +66,14 @@ module _ {n : ℕ} where
   Contents [] = Unit {0}
   Contents (p ∷ ps) = Content p × Contents ps
 
-  abbrev pub content_of : (p : Parameter n) (κs : Lfts n) → (type_at (slot_of p) κs).Denot → Content p
+  abbrev pub content_of : (p : Parameter n) (κs : Lfts n) → (type_at (slot_of p) κs).Denot
+      → Content p
   content_of (value R) κs x = x
   content_of (lent j ok R) κs x = x.now
   content_of (lent_mut j ok R) κs x = x.now
 
-  abbrev pub contents_of : (ps : List (Parameter n)) (κs : Lfts n) → Denots (types_at (slots_of ps) κs)
-      → Contents ps
+  abbrev pub contents_of : (ps : List (Parameter n)) (κs : Lfts n)
+      → Denots (types_at (slots_of ps) κs) → Contents ps
   contents_of [] κs a = tt
   contents_of (p ∷ ps) κs a = (content_of p κs a.0, contents_of ps κs a.1)
 

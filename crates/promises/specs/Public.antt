@@ -1,8 +1,8 @@
 -- Every public function that answers or writes, crate by crate: how many lifetimes it has, its
--- parameters, its contract and its code, and the definition that it gives, from the parameters'
--- contents to the answer and the content of each slice that it is lent to write (`Parameters` and
--- `Contract` say all that this promises). Not here are the functions that only print
--- (docs/CONTRACTS.md lists them): they answer nothing and are lent nothing to write.
+-- parameters, its contract, its code and its name, and the definition that it gives, from the
+-- parameters' contents to the answer and the content of each slice that it is lent to write
+-- (`Parameters` and `Contract` say all that this promises). Not here are the functions that only
+-- print (docs/CONTRACTS.md lists them): they answer nothing and are lent nothing to write.
 use Rattle.std.specs.Prelude.{ℕ, List, [], ◌∷◌}
 use Rattle.std.specs.Borrow.{Array, u8, u16, u32, u64, usize}
 use Rattle.octets.specs.contracts as octets
@@ -130,60 +130,86 @@ use Rattle.promises.specs.Parameters.{
 -- in memory of one kind
 pub record PublicFunctions (M : Type 1) : Type 2 where
   -- octets: big-endian numbers, and the number by sign and size
-  pub octets_be16 : Gives M 0 (value (Array u8 2) ∷ []) (λ _. octets.be16.clauses) octets_code.be16.Symbol.code octets.be16.Key.name (λ (octets, _). be_at octets 0 2)
-  pub octets_be32 : Gives M 0 (value (Array u8 4) ∷ []) (λ _. octets.be32.clauses) octets_code.be32.Symbol.code octets.be32.Key.name (λ (octets, _). be_at octets 0 4)
-  pub octets_be64 : Gives M 0 (value (Array u8 8) ∷ []) (λ _. octets.be64.clauses) octets_code.be64.Symbol.code octets.be64.Key.name (λ (octets, _). be_at octets 0 8)
-  pub octets_sign_and_size : Gives M 1 (lent 0 tt u8 ∷ []) (λ _. octets.sign_and_size.clauses) octets_code.sign_and_size.Symbol.code octets.sign_and_size.Key.name (λ (octets, _). signed_of octets)
+  pub octets_be16 : Gives M 0 (value (Array u8 2) ∷ []) (λ _. octets.be16.clauses)
+      octets_code.be16.Symbol.code octets.be16.Key.name (λ (octets, _). be_at octets 0 2)
+  pub octets_be32 : Gives M 0 (value (Array u8 4) ∷ []) (λ _. octets.be32.clauses)
+      octets_code.be32.Symbol.code octets.be32.Key.name (λ (octets, _). be_at octets 0 4)
+  pub octets_be64 : Gives M 0 (value (Array u8 8) ∷ []) (λ _. octets.be64.clauses)
+      octets_code.be64.Symbol.code octets.be64.Key.name (λ (octets, _). be_at octets 0 8)
+  pub octets_sign_and_size : Gives M 1 (lent 0 tt u8 ∷ []) (λ _. octets.sign_and_size.clauses)
+      octets_code.sign_and_size.Symbol.code octets.sign_and_size.Key.name
+      (λ (octets, _). signed_of octets)
   -- sections: what a kind says of its number, and the decoded fields
-  pub sections_least_payload_of : Gives M 0 (value u64 ∷ []) (λ _. sections.least_payload_of.clauses) sections_code.least_payload_of.Symbol.code sections.least_payload_of.Key.name (λ (number, _). least_payload_of number)
-  pub sections_values_of : Gives M 0 (value u64 ∷ []) (λ _. sections.values_of.clauses) sections_code.values_of.Symbol.code sections.values_of.Key.name (λ (number, _). values_of number)
-  pub Indicator-from_section : Gives M 1 (lent 0 tt u8 ∷ []) (λ _. Indicator.from_section.clauses) IndicatorCode.from_section.Symbol.code Indicator.from_section.Key.name (λ (section, _). indicator_of section)
+  pub sections_least_payload_of : Gives M 0 (value u64 ∷ [])
+      (λ _. sections.least_payload_of.clauses) sections_code.least_payload_of.Symbol.code
+      sections.least_payload_of.Key.name (λ (number, _). least_payload_of number)
+  pub sections_values_of : Gives M 0 (value u64 ∷ []) (λ _. sections.values_of.clauses)
+      sections_code.values_of.Symbol.code sections.values_of.Key.name
+      (λ (number, _). values_of number)
+  pub Indicator-from_section : Gives M 1 (lent 0 tt u8 ∷ []) (λ _. Indicator.from_section.clauses)
+      IndicatorCode.from_section.Symbol.code Indicator.from_section.Key.name
+      (λ (section, _). indicator_of section)
   pub Identification-from_payload : Gives M 1 (lent 0 tt u8 ∷ [])
-      (λ _. Identification.from_payload.clauses) IdentificationCode.from_payload.Symbol.code Identification.from_payload.Key.name
-      (λ (payload, _). identification_of payload)
+      (λ _. Identification.from_payload.clauses) IdentificationCode.from_payload.Symbol.code
+      Identification.from_payload.Key.name (λ (payload, _). identification_of payload)
   pub GridDefinition-from_payload : Gives M 1 (lent 0 tt u8 ∷ [])
-      (λ _. GridDefinition.from_payload.clauses) GridDefinitionCode.from_payload.Symbol.code GridDefinition.from_payload.Key.name
-      (λ (payload, _). grid_definition_of payload)
+      (λ _. GridDefinition.from_payload.clauses) GridDefinitionCode.from_payload.Symbol.code
+      GridDefinition.from_payload.Key.name (λ (payload, _). grid_definition_of payload)
   pub ProdDefinition-from_payload : Gives M 1 (lent 0 tt u8 ∷ [])
-      (λ _. ProdDefinition.from_payload.clauses) ProdDefinitionCode.from_payload.Symbol.code ProdDefinition.from_payload.Key.name
-      (λ (payload, _). prod_definition_of payload)
+      (λ _. ProdDefinition.from_payload.clauses) ProdDefinitionCode.from_payload.Symbol.code
+      ProdDefinition.from_payload.Key.name (λ (payload, _). prod_definition_of payload)
   pub ReprDefinition-from_payload : Gives M 1 (lent 0 tt u8 ∷ [])
-      (λ _. ReprDefinition.from_payload.clauses) ReprDefinitionCode.from_payload.Symbol.code ReprDefinition.from_payload.Key.name
-      (λ (payload, _). repr_definition_of payload)
-  pub BitMap-from_payload : Gives M 1 (lent 0 tt u8 ∷ []) (λ _. BitMap.from_payload.clauses) BitMapCode.from_payload.Symbol.code BitMap.from_payload.Key.name (λ (payload, _). bit_map_of payload)
+      (λ _. ReprDefinition.from_payload.clauses) ReprDefinitionCode.from_payload.Symbol.code
+      ReprDefinition.from_payload.Key.name (λ (payload, _). repr_definition_of payload)
+  pub BitMap-from_payload : Gives M 1 (lent 0 tt u8 ∷ []) (λ _. BitMap.from_payload.clauses)
+      BitMapCode.from_payload.Symbol.code BitMap.from_payload.Key.name
+      (λ (payload, _). bit_map_of payload)
   -- products: where a template holds what, when and where, and the product fields, by a reading of
   -- our table and of a lent one
   pub products_offsets_at : Gives M 0 (value TemplateReading.the_row ∷ value u16 ∷ [])
-      (λ _. products.offsets_at.clauses) products_code.offsets_at.Symbol.code products.offsets_at.Key.name
-      (λ (reading, (template, _)). offsets_of reading template)
-  pub products_offsets_by :
-      Gives M 1 (lent 0 tt u32 ∷ value TemplateReading.the_row ∷ value u16 ∷ [])
-      (λ _. products.offsets_by.clauses) products_code.offsets_by.Symbol.code products.offsets_by.Key.name
+      (λ _. products.offsets_at.clauses) products_code.offsets_at.Symbol.code
+      products.offsets_at.Key.name (λ (reading, (template, _)). offsets_of reading template)
+  pub products_offsets_by : Gives M 1
+      (lent 0 tt u32 ∷ value TemplateReading.the_row ∷ value u16 ∷ [])
+      (λ _. products.offsets_by.clauses) products_code.offsets_by.Symbol.code
+      products.offsets_by.Key.name
       (λ (rows, (reading, (template, _))). offsets_by rows reading template)
   pub products_when_and_where : Gives M 1 (value TemplateReading.the_row ∷ lent 0 tt u8 ∷ [])
-      (λ _. products.when_and_where.clauses) products_code.when_and_where.Symbol.code products.when_and_where.Key.name
-      (λ (reading, (payload, _)). when_where_of reading payload)
+      (λ _. products.when_and_where.clauses) products_code.when_and_where.Symbol.code
+      products.when_and_where.Key.name (λ (reading, (payload, _)). when_where_of reading payload)
   pub products_product_of : Gives M 1 (value TemplateReading.the_row ∷ lent 0 tt u8 ∷ [])
-      (λ _. products.product_of.clauses) products_code.product_of.Symbol.code products.product_of.Key.name
-      (λ (reading, (payload, _)). product_of reading payload)
-  pub products_product_by :
-      Gives M 2 (lent 0 tt u32 ∷ value TemplateReading.the_row ∷ lent 1 tt u8 ∷ [])
-      (λ _. products.product_by.clauses) products_code.product_by.Symbol.code products.product_by.Key.name
+      (λ _. products.product_of.clauses) products_code.product_of.Symbol.code
+      products.product_of.Key.name (λ (reading, (payload, _)). product_of reading payload)
+  pub products_product_by : Gives M 2
+      (lent 0 tt u32 ∷ value TemplateReading.the_row ∷ lent 1 tt u8 ∷ [])
+      (λ _. products.product_by.clauses) products_code.product_by.Symbol.code
+      products.product_by.Key.name
       (λ (rows, (reading, (payload, _))). product_by rows reading payload)
   -- framing: what stands at a cursor, and where the next message starts
   pub framing_framed_at : Gives M 1 (lent 0 tt u8 ∷ value Cursor.the_row ∷ [])
       (λ _. framing.framed_at.clauses) framing_code.framed_at.Symbol.code framing.framed_at.Key.name
       (λ (file, (cursor, _)). framed (read_at file cursor.at.0 cursor.rest))
-  pub framing_next_start : Gives M 1 (lent 0 tt u8 ∷ value usize ∷ []) (λ _. framing.next_start.clauses) framing_code.next_start.Symbol.code framing.next_start.Key.name (λ (file, (at, _)). next_start file at)
+  pub framing_next_start : Gives M 1 (lent 0 tt u8 ∷ value usize ∷ [])
+      (λ _. framing.next_start.clauses) framing_code.next_start.Symbol.code
+      framing.next_start.Key.name (λ (file, (at, _)). next_start file at)
   -- order: which section may come next
-  pub order_judge : Gives M 0 (value Order.the_row ∷ value u64 ∷ []) (λ _. order.judge.clauses) order_code.judge.Symbol.code order.judge.Key.name (λ (order, (number, _)). judged order number)
-  pub order_judge_read : Gives M 0 (value Order.the_row ∷ value u64 ∷ []) (λ _. order.judge_read.clauses) order_code.judge_read.Symbol.code order.judge_read.Key.name (λ (order, (number, _)). judged_read order number)
-  pub order_completing : Gives M 0 (value Order.the_row ∷ value u64 ∷ []) (λ _. order.completing.clauses) order_code.completing.Symbol.code order.completing.Key.name (λ (order, (number, _)). completes order number)
-  pub order_between_messages : Gives M 0 (value Order.the_row ∷ []) (λ _. order.between_messages.clauses) order_code.between_messages.Symbol.code order.between_messages.Key.name (λ (order, _). is_between order)
-  pub order_judge_all : Gives M 1 (lent 0 tt u64 ∷ []) (λ _. order.judge_all.clauses) order_code.judge_all.Symbol.code order.judge_all.Key.name (λ (numbers, _). order_of numbers)
+  pub order_judge : Gives M 0 (value Order.the_row ∷ value u64 ∷ []) (λ _. order.judge.clauses)
+      order_code.judge.Symbol.code order.judge.Key.name
+      (λ (order, (number, _)). judged order number)
+  pub order_judge_read : Gives M 0 (value Order.the_row ∷ value u64 ∷ [])
+      (λ _. order.judge_read.clauses) order_code.judge_read.Symbol.code order.judge_read.Key.name
+      (λ (order, (number, _)). judged_read order number)
+  pub order_completing : Gives M 0 (value Order.the_row ∷ value u64 ∷ [])
+      (λ _. order.completing.clauses) order_code.completing.Symbol.code order.completing.Key.name
+      (λ (order, (number, _)). completes order number)
+  pub order_between_messages : Gives M 0 (value Order.the_row ∷ [])
+      (λ _. order.between_messages.clauses) order_code.between_messages.Symbol.code
+      order.between_messages.Key.name (λ (order, _). is_between order)
+  pub order_judge_all : Gives M 1 (lent 0 tt u64 ∷ []) (λ _. order.judge_all.clauses)
+      order_code.judge_all.Symbol.code order.judge_all.Key.name (λ (numbers, _). order_of numbers)
   -- index: what is in force, a submessage's line, and document 01's numbers
-  pub index_opened : Gives M 0 (value u64 ∷ []) (λ _. index.opened.clauses) index_code.opened.Symbol.code index.opened.Key.name
-      (λ (message, _). opened message)
+  pub index_opened : Gives M 0 (value u64 ∷ []) (λ _. index.opened.clauses)
+      index_code.opened.Symbol.code index.opened.Key.name (λ (message, _). opened message)
   pub index_in_force : Gives M 0 (value Force.the_row ∷ value u64 ∷ value Place.the_row ∷ [])
       (λ _. index.in_force.clauses) index_code.in_force.Symbol.code index.in_force.Key.name
       (λ (force, (number, (here, _))). in_force force number here)
@@ -191,31 +217,42 @@ pub record PublicFunctions (M : Type 1) : Type 2 where
       (λ _. index.with_span.clauses) index_code.with_span.Symbol.code index.with_span.Key.name
       (λ (force, (span, _)). with_span force span)
   pub index_with_submessage : Gives M 0 (value Force.the_row ∷ value u64 ∷ [])
-      (λ _. index.with_submessage.clauses) index_code.with_submessage.Symbol.code index.with_submessage.Key.name
-      (λ (force, (submessage, _)). with_submessage force submessage)
+      (λ _. index.with_submessage.clauses) index_code.with_submessage.Symbol.code
+      index.with_submessage.Key.name (λ (force, (submessage, _)). with_submessage force submessage)
   pub index_line_of : Gives M 0 (value Force.the_row ∷ value MessageEnd.the_row ∷ [])
-      (λ _. index.line_of.clauses) index_code.line_of.Symbol.code index.line_of.Key.name (λ (force, (end, _)). line_of force end)
-  pub index_unlisted : Gives M 0 [] (λ _. index.unlisted.clauses) index_code.unlisted.Symbol.code index.unlisted.Key.name
-      (λ _. unlisted)
-  pub index_end_of : Gives M 0 (value Outcome.the_row ∷ []) (λ _. index.end_of.clauses) index_code.end_of.Symbol.code index.end_of.Key.name (λ (outcome, _). end_of outcome)
-  pub index_stored : Gives M 0 (value u64 ∷ []) (λ _. index.stored.clauses) index_code.stored.Symbol.code index.stored.Key.name
-      (λ (octets, _). stored octets)
-  pub index_unplaced : Gives M 0 (value u64 ∷ value u64 ∷ []) (λ _. index.unplaced.clauses) index_code.unplaced.Symbol.code index.unplaced.Key.name (λ (outcome, (detail, _)). unplaced outcome detail)
+      (λ _. index.line_of.clauses) index_code.line_of.Symbol.code index.line_of.Key.name
+      (λ (force, (end, _)). line_of force end)
+  pub index_unlisted : Gives M 0 [] (λ _. index.unlisted.clauses) index_code.unlisted.Symbol.code
+      index.unlisted.Key.name (λ _. unlisted)
+  pub index_end_of : Gives M 0 (value Outcome.the_row ∷ []) (λ _. index.end_of.clauses)
+      index_code.end_of.Symbol.code index.end_of.Key.name (λ (outcome, _). end_of outcome)
+  pub index_stored : Gives M 0 (value u64 ∷ []) (λ _. index.stored.clauses)
+      index_code.stored.Symbol.code index.stored.Key.name (λ (octets, _). stored octets)
+  pub index_unplaced : Gives M 0 (value u64 ∷ value u64 ∷ []) (λ _. index.unplaced.clauses)
+      index_code.unplaced.Symbol.code index.unplaced.Key.name
+      (λ (outcome, (detail, _)). unplaced outcome detail)
   -- reading: the one step
-  pub reading_start : Gives M 0 [] (λ _. reading.start.clauses) reading_code.start.Symbol.code reading.start.Key.name (λ _. start)
-  pub reading_look : Gives M 1 (lent 0 tt u8 ∷ value Reading.the_row ∷ []) (λ _. reading.look.clauses) reading_code.look.Symbol.code reading.look.Key.name (λ (file, (reading, _)). seen file reading)
-  pub reading_glance : Gives M 1 (lent 0 tt u8 ∷ value Reading.the_row ∷ []) (λ _. reading.glance.clauses) reading_code.glance.Symbol.code reading.glance.Key.name (λ (file, (reading, _)). seen file reading)
+  pub reading_start : Gives M 0 [] (λ _. reading.start.clauses) reading_code.start.Symbol.code
+      reading.start.Key.name (λ _. start)
+  pub reading_look : Gives M 1 (lent 0 tt u8 ∷ value Reading.the_row ∷ [])
+      (λ _. reading.look.clauses) reading_code.look.Symbol.code reading.look.Key.name
+      (λ (file, (reading, _)). seen file reading)
+  pub reading_glance : Gives M 1 (lent 0 tt u8 ∷ value Reading.the_row ∷ [])
+      (λ _. reading.glance.clauses) reading_code.glance.Symbol.code reading.glance.Key.name
+      (λ (file, (reading, _)). seen file reading)
   -- standing: a count, where a message and a walk stand behind a section, and the whole section
   -- table
-  pub standing_one_more : Gives M 0 (value u64 ∷ []) (λ _. standing.one_more.clauses) standing_code.one_more.Symbol.code standing.one_more.Key.name (λ (n, _). one_more n)
-  pub standing_span_after :
-      Gives M 0 (value Span.the_row ∷ value Section.the_row ∷ value Cursor.the_row ∷ [])
-      (λ _. standing.span_after.clauses) standing_code.span_after.Symbol.code standing.span_after.Key.name
+  pub standing_one_more : Gives M 0 (value u64 ∷ []) (λ _. standing.one_more.clauses)
+      standing_code.one_more.Symbol.code standing.one_more.Key.name (λ (n, _). one_more n)
+  pub standing_span_after : Gives M 0
+      (value Span.the_row ∷ value Section.the_row ∷ value Cursor.the_row ∷ [])
+      (λ _. standing.span_after.clauses) standing_code.span_after.Symbol.code
+      standing.span_after.Key.name
       (λ (before, (section, (next, _))). span_after before section next)
-  pub standing_passed_row :
-      Gives M 0 (value Standing.the_row ∷ value Section.the_row ∷ value Reading.the_row ∷ [])
-      (λ _. standing.passed_row.clauses) standing_code.passed_row.Symbol.code standing.passed_row.Key.name
-      (λ (at, (section, (next, _))). passed_row at section next)
+  pub standing_passed_row : Gives M 0
+      (value Standing.the_row ∷ value Section.the_row ∷ value Reading.the_row ∷ [])
+      (λ _. standing.passed_row.clauses) standing_code.passed_row.Symbol.code
+      standing.passed_row.Key.name (λ (at, (section, (next, _))). passed_row at section next)
   pub standing_put_row : Gives M 1 (lent_mut 0 tt u64 ∷ value u64 ∷ value Section.the_row ∷ [])
       (λ _. standing.put_row.clauses) standing_code.put_row.Symbol.code standing.put_row.Key.name
       (λ (rows, (place, (section, _))). (tt, row_put place section rows))
@@ -227,21 +264,25 @@ pub record PublicFunctions (M : Type 1) : Type 2 where
   -- walk_numbers: the same, with lines as numbers
   pub walk_numbers_walk_numbers : Gives M 3
       (lent 0 tt u8 ∷ lent_mut 1 tt u64 ∷ lent_mut 2 tt u64 ∷ [])
-      (λ _. walk_numbers.walk_numbers.clauses) walk_numbers_code.walk_numbers.Symbol.code walk_numbers.walk_numbers.Key.name
+      (λ _. walk_numbers.walk_numbers.clauses) walk_numbers_code.walk_numbers.Symbol.code
+      walk_numbers.walk_numbers.Key.name
       (λ (file, (rows, (lines, _))). let told = walk_numbers file rows lines in
       ((told.answer, told.rows), told.lines))
   -- pull: of a reader the content of its file and its progress are taken and seen; `new` holds the
   -- very file that it was lent, and `next` keeps it
-  pub pull_first : Gives M 1 (lent 0 tt u8 ∷ []) (λ _. pull.first.clauses) pull_code.first.Symbol.code pull.first.Key.name
-      (λ (file, _). first_of file)
-  pub pull_pull_at : Gives M 1 (lent 0 tt u8 ∷ value Progress.the_row ∷ []) (λ _. pull.pull_at.clauses) pull_code.pull_at.Symbol.code pull.pull_at.Key.name (λ (file, (progress, _)). pull_at file progress)
-  pub pull_new : Promised M pull.new.ended (λ _. pull.new.clauses) pull_code.new.Symbol.code pull.new.Key.name
-      {O = List ℕ × Progress} (contents_of {n = 1} (lent 0 tt u8 ∷ []))
-      (MayPassAll {n = 1} (lent 0 tt u8 ∷ []))
-      (λ κs reader _. (reader.file.now, reader.progress)) (λ (file, _). (file, first_of file))
+  pub pull_first : Gives M 1 (lent 0 tt u8 ∷ []) (λ _. pull.first.clauses)
+      pull_code.first.Symbol.code pull.first.Key.name (λ (file, _). first_of file)
+  pub pull_pull_at : Gives M 1 (lent 0 tt u8 ∷ value Progress.the_row ∷ [])
+      (λ _. pull.pull_at.clauses) pull_code.pull_at.Symbol.code pull.pull_at.Key.name
+      (λ (file, (progress, _)). pull_at file progress)
+  pub pull_new : Promised M pull.new.ended (λ _. pull.new.clauses) pull_code.new.Symbol.code
+      pull.new.Key.name {O = List ℕ × Progress} (contents_of {n = 1} (lent 0 tt u8 ∷ []))
+      (MayPassAll {n = 1} (lent 0 tt u8 ∷ [])) (λ κs reader _. (reader.file.now, reader.progress))
+      (λ (file, _). (file, first_of file))
   pub pull_new_holds : SeenIs M pull.new.ended (λ _. pull.new.clauses)
       (λ κs (file, _). file) (λ κs reader _. reader.file) (λ file. file)
-  pub pull-Reader_next : Promised M pull.Reader.next.ended (λ _. pull.Reader.next.clauses) pull_code.Reader.next.Symbol.code pull.Reader.next.Key.name {O = Pulled × List ℕ × Progress}
+  pub pull-Reader_next : Promised M pull.Reader.next.ended (λ _. pull.Reader.next.clauses)
+      pull_code.Reader.next.Symbol.code pull.Reader.next.Key.name {O = Pulled × List ℕ × Progress}
       (λ κs (reader, _). (reader.now.file.now, reader.now.progress))
       (λ (file, progress). MayPassAll {n = 1} (lent 0 tt u8 ∷ value Progress.the_row ∷ [])
       (file, (progress, tt)))
@@ -250,73 +291,96 @@ pub record PublicFunctions (M : Type 1) : Type 2 where
   pub pull-Reader_next_keeps : SeenIs M pull.Reader.next.ended (λ _. pull.Reader.next.clauses)
       (λ κs (reader, _). reader.now.file) (λ κs _ (reader, _). reader.now.file) (λ file. file)
   -- publish: the answer and the whole destination
-  pub publish_publish : Gives M 2 (lent 0 tt u8 ∷ lent_mut 1 tt u8 ∷ []) (λ _. publish.publish.clauses) publish_code.publish.Symbol.code publish.publish.Key.name (λ (file, (dest, _)). let copied = copy_of licensed file dest in
+  pub publish_publish : Gives M 2 (lent 0 tt u8 ∷ lent_mut 1 tt u8 ∷ [])
+      (λ _. publish.publish.clauses) publish_code.publish.Symbol.code publish.publish.Key.name
+      (λ (file, (dest, _)). let copied = copy_of licensed file dest in
       (copied.answer, copied.dest))
-  pub publish_copy_end : Gives M 0 (value Published.the_row ∷ []) (λ _. publish.copy_end.clauses) publish_code.copy_end.Symbol.code publish.copy_end.Key.name (λ (answer, _). copy_end answer)
+  pub publish_copy_end : Gives M 0 (value Published.the_row ∷ []) (λ _. publish.copy_end.clauses)
+      publish_code.copy_end.Symbol.code publish.copy_end.Key.name (λ (answer, _). copy_end answer)
   -- writer: the answer and the whole destination
   pub writer_write : Gives M 3 (value u8 ∷ value u8 ∷ value u8 ∷
-      lent 0 tt u64 ∷ lent 1 tt u8 ∷ lent_mut 2 tt u8 ∷ []) (λ _. writer.write.clauses) writer_code.write.Symbol.code writer.write.Key.name
+      lent 0 tt u64 ∷ lent 1 tt u8 ∷ lent_mut 2 tt u8 ∷ []) (λ _. writer.write.clauses)
+      writer_code.write.Symbol.code writer.write.Key.name
       (λ (discipline, (reserved₁, (reserved₂, (plan, (store, (dest, _)))))).
       let wrote = write_of discipline reserved₁ reserved₂ plan store dest in
       (wrote.answer, wrote.dest))
-  pub writer_write_end : Gives M 0 (value Written.the_row ∷ []) (λ _. writer.write_end.clauses) writer_code.write_end.Symbol.code writer.write_end.Key.name (λ (answer, _). write_end answer)
+  pub writer_write_end : Gives M 0 (value Written.the_row ∷ []) (λ _. writer.write_end.clauses)
+      writer_code.write_end.Symbol.code writer.write_end.Key.name (λ (answer, _). write_end answer)
   -- entries, inventory, lists: an entry's line; the answer and the whole buffer; the answer and the
   -- whole table
-  pub entries_spell : Gives M 0 (value Entry.the_row ∷ []) (λ _. entries.spell.clauses) entries_code.spell.Symbol.code entries.spell.Key.name (λ (entry, _). spelled_of entry)
+  pub entries_spell : Gives M 0 (value Entry.the_row ∷ []) (λ _. entries.spell.clauses)
+      entries_code.spell.Symbol.code entries.spell.Key.name (λ (entry, _). spelled_of entry)
   pub inventory_inventory : Gives M 2 (lent 0 tt u8 ∷ lent_mut 1 tt u8 ∷ [])
-      (λ _. inventory.inventory.clauses) inventory_code.inventory.Symbol.code inventory.inventory.Key.name
+      (λ _. inventory.inventory.clauses) inventory_code.inventory.Symbol.code
+      inventory.inventory.Key.name
       (λ (file, (text, _)). let wrote = inventory_of file text in (wrote.answer, wrote.text))
   pub inventory_inventory_end : Gives M 0 (value Inventoried.the_row ∷ [])
-      (λ _. inventory.inventory_end.clauses) inventory_code.inventory_end.Symbol.code inventory.inventory_end.Key.name
-      (λ (answer, _). inventory_end answer)
-  pub lists_read_list : Gives M 2 (lent 0 tt u8 ∷ lent_mut 1 tt u64 ∷ []) (λ _. lists.read_list.clauses) lists_code.read_list.Symbol.code lists.read_list.Key.name (λ (text, (table, _)). let stored = read_of text table in
+      (λ _. inventory.inventory_end.clauses) inventory_code.inventory_end.Symbol.code
+      inventory.inventory_end.Key.name (λ (answer, _). inventory_end answer)
+  pub lists_read_list : Gives M 2 (lent 0 tt u8 ∷ lent_mut 1 tt u64 ∷ [])
+      (λ _. lists.read_list.clauses) lists_code.read_list.Symbol.code lists.read_list.Key.name
+      (λ (text, (table, _)). let stored = read_of text table in
       (stored.answer, stored.table))
-  pub lists_list_end : Gives M 0 (value ListEnd.the_row ∷ []) (λ _. lists.list_end.clauses) lists_code.list_end.Symbol.code lists.list_end.Key.name (λ (end, _). list_end end)
+  pub lists_list_end : Gives M 0 (value ListEnd.the_row ∷ []) (λ _. lists.list_end.clauses)
+      lists_code.list_end.Symbol.code lists.list_end.Key.name (λ (end, _). list_end end)
   -- requests: the request at a place of an input
   pub requests_request_at : Gives M 1 (lent 0 tt u8 ∷ value usize ∷ [])
-      (λ _. requests.request_at.clauses) requests_code.request_at.Symbol.code requests.request_at.Key.name
-      (λ (input, (at, _)). request_at input at)
+      (λ _. requests.request_at.clauses) requests_code.request_at.Symbol.code
+      requests.request_at.Key.name (λ (input, (at, _)). request_at input at)
   -- buttresk, the C face: the walk in numbers, the copy, the message, the inventory, a list, the
   -- fields
   pub buttresk_walk : Gives M 3 (lent 0 tt u8 ∷ lent_mut 1 tt u64 ∷ lent_mut 2 tt u64 ∷ [])
-      (λ _. buttresk.buttresk_walk.clauses) buttresk_code.buttresk_walk.Symbol.code buttresk.buttresk_walk.Key.name
+      (λ _. buttresk.buttresk_walk.clauses) buttresk_code.buttresk_walk.Symbol.code
+      buttresk.buttresk_walk.Key.name
       (λ (file, (rows, (lines, _))). let told = walk_numbers file rows lines in
       ((told.answer, told.rows), told.lines))
   pub buttresk_publish : Gives M 2 (lent 0 tt u8 ∷ lent_mut 1 tt u8 ∷ [])
-      (λ _. buttresk.buttresk_publish.clauses) buttresk_code.buttresk_publish.Symbol.code buttresk.buttresk_publish.Key.name
+      (λ _. buttresk.buttresk_publish.clauses) buttresk_code.buttresk_publish.Symbol.code
+      buttresk.buttresk_publish.Key.name
       (λ (file, (dest, _)). let copied = copy_of licensed file dest in
       (five_of (copy_end copied.answer), copied.dest))
   pub buttresk_write : Gives M 3 (value u8 ∷ value u8 ∷ value u8 ∷
-      lent 0 tt u64 ∷ lent 1 tt u8 ∷ lent_mut 2 tt u8 ∷ []) (λ _. buttresk.buttresk_write.clauses) buttresk_code.buttresk_write.Symbol.code buttresk.buttresk_write.Key.name
+      lent 0 tt u64 ∷ lent 1 tt u8 ∷ lent_mut 2 tt u8 ∷ []) (λ _. buttresk.buttresk_write.clauses)
+      buttresk_code.buttresk_write.Symbol.code buttresk.buttresk_write.Key.name
       (λ (discipline, (reserved₁, (reserved₂, (plan, (store, (dest, _)))))).
       let wrote = write_of discipline reserved₁ reserved₂ plan store dest in
       (five_of (write_end wrote.answer), wrote.dest))
   pub buttresk_inventory : Gives M 2 (lent 0 tt u8 ∷ lent_mut 1 tt u8 ∷ [])
-      (λ _. buttresk.buttresk_inventory.clauses) buttresk_code.buttresk_inventory.Symbol.code buttresk.buttresk_inventory.Key.name
+      (λ _. buttresk.buttresk_inventory.clauses) buttresk_code.buttresk_inventory.Symbol.code
+      buttresk.buttresk_inventory.Key.name
       (λ (file, (text, _)). let wrote = inventory_of file text in
       (five_of (inventory_end wrote.answer), wrote.text))
   pub buttresk_read_list : Gives M 2 (lent 0 tt u8 ∷ lent_mut 1 tt u64 ∷ [])
-      (λ _. buttresk.buttresk_read_list.clauses) buttresk_code.buttresk_read_list.Symbol.code buttresk.buttresk_read_list.Key.name
-      (λ (text, (table, _)). let stored = read_of text table in
+      (λ _. buttresk.buttresk_read_list.clauses) buttresk_code.buttresk_read_list.Symbol.code
+      buttresk.buttresk_read_list.Key.name (λ (text, (table, _)). let stored = read_of text table in
       (read_answer_of stored.answer, stored.table))
-  pub buttresk_indicator : Gives M 1 (lent 0 tt u8 ∷ []) (λ _. buttresk.buttresk_indicator.clauses) buttresk_code.buttresk_indicator.Symbol.code buttresk.buttresk_indicator.Key.name
+  pub buttresk_indicator : Gives M 1 (lent 0 tt u8 ∷ []) (λ _. buttresk.buttresk_indicator.clauses)
+      buttresk_code.buttresk_indicator.Symbol.code buttresk.buttresk_indicator.Key.name
       (λ (section, _). indicator_fields (indicator_of section))
   pub buttresk_identification : Gives M 1 (lent 0 tt u8 ∷ [])
-      (λ _. buttresk.buttresk_identification.clauses) buttresk_code.buttresk_identification.Symbol.code buttresk.buttresk_identification.Key.name
+      (λ _. buttresk.buttresk_identification.clauses)
+      buttresk_code.buttresk_identification.Symbol.code buttresk.buttresk_identification.Key.name
       (λ (payload, _). identification_fields (identification_of payload))
   pub buttresk_grid_definition : Gives M 1 (lent 0 tt u8 ∷ [])
-      (λ _. buttresk.buttresk_grid_definition.clauses) buttresk_code.buttresk_grid_definition.Symbol.code buttresk.buttresk_grid_definition.Key.name
+      (λ _. buttresk.buttresk_grid_definition.clauses)
+      buttresk_code.buttresk_grid_definition.Symbol.code buttresk.buttresk_grid_definition.Key.name
       (λ (payload, _). grid_fields (grid_definition_of payload))
   pub buttresk_product_definition : Gives M 1 (value u64 ∷ lent 0 tt u8 ∷ [])
-      (λ _. buttresk.buttresk_product_definition.clauses) buttresk_code.buttresk_product_definition.Symbol.code buttresk.buttresk_product_definition.Key.name
+      (λ _. buttresk.buttresk_product_definition.clauses)
+      buttresk_code.buttresk_product_definition.Symbol.code
+      buttresk.buttresk_product_definition.Key.name
       (λ (reading, (payload, _)). product_fields reading payload)
   pub buttresk_when_and_where : Gives M 1 (value u64 ∷ lent 0 tt u8 ∷ [])
-      (λ _. buttresk.buttresk_when_and_where.clauses) buttresk_code.buttresk_when_and_where.Symbol.code buttresk.buttresk_when_and_where.Key.name
+      (λ _. buttresk.buttresk_when_and_where.clauses)
+      buttresk_code.buttresk_when_and_where.Symbol.code buttresk.buttresk_when_and_where.Key.name
       (λ (reading, (payload, _)). when_where_fields reading payload)
   pub buttresk_representation : Gives M 1 (lent 0 tt u8 ∷ [])
-      (λ _. buttresk.buttresk_representation.clauses) buttresk_code.buttresk_representation.Symbol.code buttresk.buttresk_representation.Key.name
+      (λ _. buttresk.buttresk_representation.clauses)
+      buttresk_code.buttresk_representation.Symbol.code buttresk.buttresk_representation.Key.name
       (λ (payload, _). representation_fields (repr_definition_of payload))
-  pub buttresk_bit_map : Gives M 1 (lent 0 tt u8 ∷ []) (λ _. buttresk.buttresk_bit_map.clauses) buttresk_code.buttresk_bit_map.Symbol.code buttresk.buttresk_bit_map.Key.name (λ (payload, _). bit_map_fields (bit_map_of payload))
+  pub buttresk_bit_map : Gives M 1 (lent 0 tt u8 ∷ []) (λ _. buttresk.buttresk_bit_map.clauses)
+      buttresk_code.buttresk_bit_map.Symbol.code buttresk.buttresk_bit_map.Key.name
+      (λ (payload, _). bit_map_fields (bit_map_of payload))
 
 -- in memory of every kind
 abbrev pub EachGivesItsDefinition : Type 2
