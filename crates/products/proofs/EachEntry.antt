@@ -1,7 +1,7 @@
 -- A rule of a list's entries: one test, computed entry by entry, and what it says at each of them.
 -- And what stands at a place that a list has.
 use mathlib.Core.Path.{◌≡◌, refl, ◌∙◌, subst, sym}
-use mathlib.Core.Bool.{Bool, true, false, ◌&&◌}
+use mathlib.Core.Bool.{Bool, true, ◌&&◌}
 use mathlib.Core.List.{List, [], ◌∷◌}
 use Prim.Native.Nat.{ℕ, zero, suc, ◌+◌, ◌<◌}
 use native.Mathlib.Nat.{add-zero, zero-add, add-suc, suc-add, le_of_suc-le-suc, not-suc-le-zero}

@@ -23,7 +23,6 @@ use Rattle.framing.proofs.Tests.{by_test}
 use Rattle.index.specs.Lines.{place, line_of}
 use Rattle.index.specs.declared.line.MessageEnd.TheVariants.{GoesOn}
 use Rattle.index.specs.declared.line.Line.{Line}
-use Rattle.index.specs.declared.refusal.Refusal.{Refusal}
 use Rattle.index.specs.declared.refusal.Refusal.TheVariants as refusal
 use Rattle.index.specs.declared.refusal.Outcome.TheVariants as outcome
 use Rattle.index.specs.Bounds.{most_octets}
@@ -46,7 +45,6 @@ use Rattle.index.specs.Walk.{
   walked,
 }
 use Rattle.reading.specs.Reading as spec
-use Rattle.reading.specs.declared.Reading.{Reading}
 use Rattle.reading.specs.declared.Seen.{Seen}
 use Rattle.reading.specs.declared.Seen.TheVariants.{Passes, Closes, Misplaced, NoGrid, Clean, InputOver, Unreadable}
 use Rattle.reading.proofs.Between.{as_judged}

@@ -1,5 +1,4 @@
 -- `list_end` meets its contract: one return for each end.
-use borrow.Author.Rules.{rules}
 use Rattle.index.specs.Numbers.{end_of}
 use Rattle.lists.specs.End.{list_end}
 use Rattle.lists.proofs.list_end.Goals as goal

@@ -1,14 +1,12 @@
 -- `read_list` meets its contract. The loop's invariant: the lines up to `at` are read, and their
 -- entries stand in the table.
-use Prim.Native.Nat.{◌-◌}
 use native.Mathlib.Omega.{arith}
-use lib.ListN.{length, drop, length-drop}
-use borrow.Author.Rules.{rules}
+use lib.ListN.{drop, length-drop}
 use Rattle.lists.specs.Line.{line_taken}
 use Rattle.lists.proofs.Places.{answers}
 use Rattle.lists.proofs.Lines.{told_full, told_not_taken, told_behind, some_left}
 use Rattle.lists.proofs.Laws.{shorter}
-use Rattle.lists.proofs.Turns.{Going, start, same_room, one_more, ends}
+use Rattle.lists.proofs.Turns.{start, same_room, one_more, ends}
 use Rattle.lists.proofs.read_list.Goals as goal
 
 pub loop-at-init : goal.loop-at-init
@@ -24,7 +22,6 @@ pub returns-in_default : goal.returns-in_default
 unfolding line_taken
 returns-in_default c =
     let at = c.loop-at.at in
-
     let both = ends c.loop-at.invariant _ (told_not_taken _ _ _ (some_left _ at c.loop-at-test.true)
     (answers (line_taken _) c.line_at.ensures c.in_default.is)) in
     record { answer = both.0; table = both.1 }

@@ -1,14 +1,8 @@
 -- `read_list` meets its contract. The loop's invariant: the lines up to `at` are read, and their
 -- entries stand in the table.
 use Prim.Native.Nat.{◌-◌}
-use native.Mathlib.Omega.{arith}
-use lib.ListN.{length, drop, length-drop}
-use borrow.Author.Rules.{rules}
-use Rattle.lists.specs.Line.{line_taken}
-use Rattle.lists.proofs.Places.{answers}
-use Rattle.lists.proofs.Lines.{told_full, told_not_taken, told_behind, some_left}
-use Rattle.lists.proofs.Laws.{shorter}
-use Rattle.lists.proofs.Turns.{Going, start, same_room, one_more, ends}
+use lib.ListN.{length}
+use Rattle.lists.proofs.Turns.{Going}
 use Rattle.lists.proofs.read_list.Given as goal
 
 abbrev pub invariant-loop-at : goal.invariant-loop-at

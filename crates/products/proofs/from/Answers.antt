@@ -6,7 +6,6 @@ use native.Mathlib.Nat.{le_refl}
 use native.Mathlib.Omega.{arith}
 use lib.ListN.{length, take, drop, length-drop, drop_of_length-le}
 use lib.Seq.{take_all, drop-length, take-nil}
-use borrow.Author.Rules.{rules}
 use Rattle.products.proofs.from.Goals as goal
 
 -- past the end both parts are empty

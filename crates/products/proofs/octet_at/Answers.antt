@@ -1,5 +1,4 @@
 -- `octet_at` meets its contract: the template has the index or not.
-use borrow.Author.Rules.{rules}
 use Rattle.products.specs.Products.{octet_of}
 use Rattle.products.specs.declared.MaybeOctet.TheVariants.{NoOctet}
 use Rattle.products.proofs.Indices.{at_index}

@@ -1,7 +1,6 @@
 -- `octet_of` meets its contract: there is an octet or not.
 use borrow.Author.Tests.{lt-ltb, le-ltb}
 use Rattle.products.specs.Products.{octet_of}
-use borrow.Author.Rules.{rules}
 use Rattle.products.proofs.octet_of.Goals as goal
 
 pub returns-then-s-lt1 : goal.returns-then-s-lt1

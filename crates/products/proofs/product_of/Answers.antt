@@ -1,7 +1,6 @@
 -- `product_of` meets its contract: the code's table is the list of rows, and by that a product is what
 -- the ranges say.
 use mathlib.Core.Path.{◌∙◌}
-use borrow.Author.Rules.{rules}
 use Rattle.products.specs.Rows.{rows}
 use Rattle.products.proofs.Rows.{product_by_the_table}
 use Rattle.products.proofs.product_of.Goals as goal

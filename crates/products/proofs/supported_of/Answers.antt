@@ -2,7 +2,6 @@
 use borrow.Author.Tests.{lt-ltb, le-ltb}
 use Rattle.octets.specs.BigEndian.{be_at}
 use Rattle.products.specs.Products.{supported_of}
-use borrow.Author.Rules.{rules}
 use Rattle.products.proofs.supported_of.Goals as goal
 
 pub returns-then-payload-lt-LEAST_PAYLOAD : goal.returns-then-payload-lt-LEAST_PAYLOAD

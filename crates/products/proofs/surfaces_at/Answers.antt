@@ -1,5 +1,4 @@
 -- `surfaces_at` meets its contract: the template has the index or not.
-use borrow.Author.Rules.{rules}
 use Rattle.products.specs.Products.{surfaces_of}
 use Rattle.products.specs.declared.MaybeSurfaces.TheVariants.{NoSurfaces}
 use Rattle.products.proofs.Indices.{at_index}

@@ -1,7 +1,6 @@
 -- `surfaces_of` meets its contract, by the cases of its two surfaces.
 use mathlib.Core.Path.{sym, ◌∙◌}
 use Rattle.products.specs.Products.{surfaces_of}
-use borrow.Author.Rules.{rules}
 use Rattle.products.proofs.surfaces_of.Goals as goal
 
 pub returns-in_default : goal.returns-in_default

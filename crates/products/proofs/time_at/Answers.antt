@@ -1,5 +1,4 @@
 -- `time_at` meets its contract: the template has the index or not.
-use borrow.Author.Rules.{rules}
 use Rattle.products.specs.Products.{time_of}
 use Rattle.products.specs.declared.MaybeTime.TheVariants.{NoTime}
 use Rattle.products.proofs.Indices.{at_index}

@@ -1,6 +1,5 @@
 -- `judged` meets its contract: by what the order says.
 use mathlib.Core.Path.{sym, ◌∙◌}
-use borrow.Author.Rules.{rules}
 use Rattle.reading.specs.Reading.{seen_by_order}
 use Rattle.reading.proofs.judged.Goals as goal
 

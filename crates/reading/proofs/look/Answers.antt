@@ -1,6 +1,5 @@
 -- `look` meets its contract: by what is read at the cursor.
 use mathlib.Core.Path.{sym, ◌∙◌}
-use borrow.Author.Rules.{rules}
 use Rattle.framing.proofs.Framings.{known}
 use Rattle.reading.specs.Reading.{seen_by_read, seen}
 use Rattle.reading.proofs.look.Goals as goal

@@ -1,5 +1,4 @@
 -- `over` meets its contract: a message is open or not.
-use borrow.Author.Rules.{rules}
 use Rattle.reading.specs.Reading.{over_in}
 use Rattle.reading.proofs.over.Goals as goal
 

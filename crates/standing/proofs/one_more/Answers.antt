@@ -1,5 +1,5 @@
 -- `one_more` meets its contract: the count is below its end, or at it.
-use Rattle.std.proofs.Common.{sym, arith, rules}
+use Rattle.std.proofs.Common.{sym, arith}
 use Rattle.standing.proofs.Passed.{more, stays}
 use Rattle.standing.proofs.one_more.Goals as goal
 

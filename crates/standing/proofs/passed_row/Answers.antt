@@ -1,5 +1,4 @@
 -- `passed_row` meets its contract: the count that `one_more` gives, put with the rest.
-use Rattle.std.proofs.Common.{rules}
 use Rattle.standing.proofs.passed_row.Goals as goal
 
 pub returns : goal.returns

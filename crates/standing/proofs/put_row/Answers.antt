@@ -1,6 +1,6 @@
 -- `put_row` meets its contract: three stores, one after the other, are three numbers in place of three; without room
 -- for them nothing changes.
-use Rattle.std.proofs.Common.{sym, ◌∙◌, arith, length-set, rules}
+use Rattle.std.proofs.Common.{sym, ◌∙◌, arith, length-set}
 use Rattle.standing.proofs.Put.{three_at, row_there, row_nowhere}
 use Rattle.standing.proofs.put_row.Goals as goal
 

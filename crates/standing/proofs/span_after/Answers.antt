@@ -1,5 +1,5 @@
 -- `span_after` meets its contract: by whether the section is a section 0.
-use Rattle.std.proofs.Common.{rules, eq-eqb, ne_eqb}
+use Rattle.std.proofs.Common.{eq-eqb, ne_eqb}
 use Rattle.standing.specs.Standing.{span_after}
 use Rattle.standing.proofs.span_after.Goals as goal
 

@@ -1,5 +1,4 @@
 -- `total_of` meets its contract: it is that sum.
-use Rattle.std.proofs.Common.{rules}
 use Rattle.standing.specs.Standing.{total_of}
 use Rattle.standing.proofs.total_of.Goals as goal
 

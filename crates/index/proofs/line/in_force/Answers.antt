@@ -1,5 +1,4 @@
 -- `in_force` meets its contract: section 2, a section that a place is kept for, or the end section.
-use borrow.Author.Rules.{rules}
 use borrow.Author.Tests.{eq-eqb, ne_eqb, lt-ltb, le-ltb}
 use Rattle.index.specs.Lines.{in_force}
 use Rattle.index.proofs.line.in_force.Goals as goal

@@ -1,6 +1,5 @@
 -- `line_of` meets its contract: field by field what is in force.
 use mathlib.Core.Path.{refl}
-use borrow.Author.Rules.{rules}
 use Rattle.index.specs.Lines.{line_of}
 use Rattle.index.proofs.line.line_of.Goals as goal
 

@@ -1,5 +1,4 @@
 -- `end_of` meets its contract: a clean end or a refusal.
-use borrow.Author.Rules.{rules}
 use Rattle.index.specs.Numbers.{end_of}
 use Rattle.index.proofs.numbers.end_of.Goals as goal
 

@@ -1,5 +1,4 @@
 -- `fault_detail` meets its contract: case by case.
-use borrow.Author.Rules.{rules}
 use Rattle.index.specs.Numbers.{fault_detail}
 use Rattle.index.proofs.numbers.fault_detail.Goals as goal
 

@@ -1,5 +1,4 @@
 -- `fault_number` meets its contract: case by case.
-use borrow.Author.Rules.{rules}
 use Rattle.index.specs.Numbers.{fault_number}
 use Rattle.index.proofs.numbers.fault_number.Goals as goal
 

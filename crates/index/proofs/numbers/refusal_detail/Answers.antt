@@ -1,6 +1,5 @@
 -- `refusal_detail` meets its contract: case by case.
 use mathlib.Core.Path.{◌∙◌}
-use borrow.Author.Rules.{rules}
 use Rattle.index.specs.Numbers.{refusal_detail}
 use Rattle.index.proofs.numbers.refusal_detail.Goals as goal
 

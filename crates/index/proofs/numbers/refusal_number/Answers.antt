@@ -1,6 +1,5 @@
 -- `refusal_number` meets its contract: case by case.
 use mathlib.Core.Path.{◌∙◌}
-use borrow.Author.Rules.{rules}
 use Rattle.index.specs.Numbers.{refusal_number}
 use Rattle.index.proofs.numbers.refusal_number.Goals as goal
 

@@ -1,5 +1,4 @@
 -- `stored` meets its contract: a clean end, and the octets.
-use borrow.Author.Rules.{rules}
 use Rattle.index.specs.Numbers.{stored}
 use Rattle.index.proofs.numbers.stored.Goals as goal
 

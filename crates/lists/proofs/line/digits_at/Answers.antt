@@ -1,11 +1,9 @@
 -- `digits_at` meets its contract. The loop's invariant: what is read on from `i` behind `value` is the
 -- answer.
-use Prim.Native.Nat.{◌-◌, ◌≤◌}
 use native.Mathlib.Omega.{arith}
-use mathlib.Core.Path.{◌≡◌, refl, sym, ◌∙◌}
-use lib.ListN.{length, drop}
+use mathlib.Core.Path.{refl, sym, ◌∙◌}
 use borrow.Author.Rules.{rules}
-use Rattle.lists.specs.Line.{take_digits, number_taken}
+use Rattle.lists.specs.Line.{number_taken}
 use Rattle.lists.proofs.Places.{
   digit_low,
   digit_high,
@@ -51,13 +49,12 @@ returns-then-most-value c =
     ∙ c.loop-i.invariant.1
 
 pub loop-i-preserved : goal.loop-i-preserved
-loop-i-preserved c =
-    (
-      omega (arith, c.requires.most),
-      sym (digits_further _ _ _ _ _ c.loop-i-test.true
-          (sym c.is_digit.ensures ∙ c.if-not-is_digit.false) c.if-most-value.false)
-          ∙ c.loop-i.invariant.1,
-    )
+loop-i-preserved c = (
+  omega (arith, c.requires.most),
+  sym (digits_further _ _ _ _ _ c.loop-i-test.true
+      (sym c.is_digit.ensures ∙ c.if-not-is_digit.false) c.if-most-value.false)
+      ∙ c.loop-i.invariant.1,
+)
 
 pub returns : goal.returns
 unfolding number_taken

@@ -1,5 +1,4 @@
 -- `five_at` meets its contract: four fields of the product, or the first that is not in form.
-use borrow.Author.Rules.{rules}
 use Rattle.lists.specs.Line.{octet_taken, time_taken, five_taken, take_five}
 use Rattle.lists.proofs.Places.{answers}
 use Rattle.lists.proofs.line.five_at.Goals as goal

@@ -1,6 +1,5 @@
 -- `four_at` meets its contract: four numbers, or the first that is not in form.
 use native.Mathlib.Omega.{arith}
-use borrow.Author.Rules.{rules}
 use Rattle.lists.specs.Line.{number_taken, four_taken, take_four}
 use Rattle.lists.proofs.Places.{answers}
 use Rattle.lists.proofs.Numbers.{number_most}

@@ -1,5 +1,4 @@
 -- `line_at` meets its contract: both parts of a line, or the first that is not in form.
-use borrow.Author.Rules.{rules}
 use Rattle.lists.specs.Line.{four_taken, five_taken, line_taken, take_line}
 use Rattle.lists.proofs.Places.{answers}
 use Rattle.lists.proofs.line.line_at.Goals as goal

@@ -1,5 +1,4 @@
 -- `next_is` meets its contract: behind the end, or the test of the octet.
-use borrow.Author.Rules.{rules}
 use mathlib.Core.Path.{sym}
 use Rattle.lists.proofs.Places.{next_inside, next_behind}
 use Rattle.lists.proofs.line.next_is.Goals as goal

@@ -2,7 +2,6 @@
 use native.Mathlib.Omega.{arith}
 use mathlib.Core.Path.{sym, ◌∙◌}
 use lib.Seq.{drop-drop}
-use borrow.Author.Rules.{rules}
 use Rattle.lists.specs.Line.{number_taken, octet_taken, take_octet}
 use Rattle.lists.proofs.Places.{answers, none_room}
 use Rattle.lists.proofs.Numbers.{number_most}

@@ -6,7 +6,6 @@ use mathlib.Core.Bool.{true, false}
 use mathlib.Core.List.{List}
 use lib.ListN.{drop}
 use lib.Seq.{drop-drop}
-use borrow.Author.Rules.{rules}
 use Rattle.products.specs.declared.MaybeTime.TheVariants.{NoTime}
 use Rattle.entries.specs.Entries.{colon}
 use Rattle.lists.specs.Line.{taken, not_taken, none_next, take_time, number_taken, time_taken}

@@ -1,5 +1,4 @@
 -- `octet_known` meets its contract: there is a value, or there is none.
-use borrow.Author.Rules.{rules}
 use Rattle.lists.specs.Lists.{octet_numbers}
 use Rattle.lists.proofs.table.octet_known.Goals as goal
 

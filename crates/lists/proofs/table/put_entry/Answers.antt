@@ -1,6 +1,5 @@
 -- `put_entry` meets its contract: the entry's numbers are stored.
 use mathlib.Core.Path.{◌∙◌}
-use borrow.Author.Rules.{rules}
 use Rattle.lists.proofs.table.put_entry.Goals as goal
 
 pub returns : goal.returns

@@ -1,5 +1,4 @@
 -- `time_value` meets its contract: there is a value, or there is none.
-use borrow.Author.Rules.{rules}
 use Rattle.lists.specs.Lists.{time_numbers}
 use Rattle.lists.proofs.table.time_value.Goals as goal
 

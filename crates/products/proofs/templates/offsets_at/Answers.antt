@@ -1,7 +1,6 @@
 -- `offsets_at` meets its contract: the code's table is the list of rows, whose columns are what the
 -- ranges say.
 use mathlib.Core.Path.{◌∙◌}
-use borrow.Author.Rules.{rules}
 use Rattle.products.specs.Rows.{rows}
 use Rattle.products.proofs.Rows.{by_the_table}
 use Rattle.products.proofs.templates.offsets_at.Goals as goal

@@ -1,6 +1,5 @@
 -- `offsets_by` meets its contract: the row, or what the Manual makes of it.
 use mathlib.Core.Path.{◌∙◌}
-use borrow.Author.Rules.{rules}
 use Rattle.products.specs.Readings.{by_reading}
 use Rattle.products.specs.Rows.{offsets_by}
 use Rattle.products.proofs.templates.offsets_by.Goals as goal

@@ -1,7 +1,5 @@
 -- `end_ahead` meets its contract: where all tests pass, section 8 is read and closes its message.
 use mathlib.Core.Path.{sym, ◌∙◌}
-use borrow.Author.Rules.{rules}
-use borrow.Author.Tests.{not-false}
 use Rattle.framing.specs.Search.{says}
 use Rattle.order.specs.Order.{judged, is_between, judged_read}
 use Rattle.reading.specs.Glance.{Glanced}

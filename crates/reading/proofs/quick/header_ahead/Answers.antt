@@ -5,8 +5,6 @@ use lib.ListN.{length, get_or}
 use Rattle.sections.specs.Kinds.{least_payload_of}
 use Rattle.framing.specs.Framing.{section_at, payload_at}
 use native.Mathlib.Omega.{arith}
-use borrow.Author.Rules.{rules}
-use borrow.Author.Tests.{not-false}
 use Rattle.reading.specs.Glance.{WholeAhead, Usual, Glanced}
 use Rattle.reading.proofs.Whole.{header_reads, four}
 use Rattle.reading.proofs.quick.header_ahead.Goals as goal

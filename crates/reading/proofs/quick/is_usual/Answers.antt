@@ -1,6 +1,5 @@
 -- `is_usual` meets its contract: in each arm the order is the arm's.
 use mathlib.Core.Path.{refl}
-use borrow.Author.Rules.{rules}
 use Rattle.order.specs.Order.{judged, is_between, judged_read}
 use Rattle.order.specs.declared.Order.TheVariants.{
   BetweenMessages,

@@ -1,7 +1,6 @@
 -- `is_whole` meets its contract: where all tests pass, nothing is refused.
 use mathlib.Core.Path.{sym, ◌∙◌}
 use mathlib.Core.Bool.{false≢true}
-use borrow.Author.Rules.{rules}
 use borrow.Author.Tests.{leb-true, eq-eqb}
 use Rattle.framing.specs.Framing.{is_cut}
 use Rattle.reading.specs.Glance.{WholeAhead}

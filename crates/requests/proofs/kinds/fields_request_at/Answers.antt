@@ -1,6 +1,5 @@
 -- `kinds::fields_request_at` meets its contract: what was read for both kinds, as one for fields.
 use mathlib.Core.Path.{ap, sym, ◌∙◌}
-use borrow.Author.Rules.{rules}
 use Rattle.requests.specs.Requests.{request_of}
 use Rattle.requests.specs.declared.Request.TheVariants.{Fields}
 use Rattle.requests.proofs.kinds.fields_request_at.Goals as goal

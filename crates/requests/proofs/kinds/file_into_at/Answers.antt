@@ -2,7 +2,6 @@
 -- file, or nothing, and then the destination is over its limit, or not.
 use mathlib.Core.Path.{refl}
 use native.Mathlib.Omega.{arith}
-use borrow.Author.Rules.{rules}
 use Rattle.requests.proofs.EachKind.{into_cut, into_room_over, into_whole}
 use Rattle.requests.proofs.kinds.file_into_at.Goals as goal
 

@@ -1,6 +1,5 @@
 -- `kinds::inventory_request_at` meets its contract: what was read for both kinds, as an inventory.
 use mathlib.Core.Path.{ap, sym, ◌∙◌}
-use borrow.Author.Rules.{rules}
 use Rattle.requests.specs.Requests.{request_into}
 use Rattle.requests.specs.declared.Request.TheVariants.{Inventory}
 use Rattle.requests.proofs.kinds.inventory_request_at.Goals as goal

@@ -2,7 +2,6 @@
 -- text, or nothing, and then the table is over its limit, or not.
 use mathlib.Core.Path.{refl}
 use native.Mathlib.Omega.{arith}
-use borrow.Author.Rules.{rules}
 use Rattle.requests.proofs.EachKind.{list_cut, list_room_over, list_whole}
 use Rattle.requests.proofs.kinds.list_request_at.Goals as goal
 

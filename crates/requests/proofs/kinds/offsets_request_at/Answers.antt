@@ -2,7 +2,6 @@
 -- names no reading, or it names one.
 use native.Mathlib.Omega.{arith}
 use mathlib.Core.Path.{refl, sym, ◌∙◌}
-use borrow.Author.Rules.{rules}
 use Rattle.requests.proofs.EachKind.{offsets_cut, offsets_read}
 use Rattle.requests.proofs.kinds.offsets_request_at.Goals as goal
 

@@ -2,7 +2,6 @@
 -- payload, or nothing.
 use mathlib.Core.Path.{refl}
 use native.Mathlib.Omega.{arith}
-use borrow.Author.Rules.{rules}
 use Rattle.requests.proofs.EachKind.{payload_cut, payload_whole}
 use Rattle.requests.proofs.kinds.payload_at.Goals as goal
 

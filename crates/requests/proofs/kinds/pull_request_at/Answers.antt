@@ -1,7 +1,6 @@
 -- `kinds::pull_request_at` meets its contract: the end of the input cuts the length, or the file,
 -- or nothing.
 use native.Mathlib.Omega.{arith}
-use borrow.Author.Rules.{rules}
 use Rattle.requests.proofs.EachKind.{pull_cut, pull_whole}
 use Rattle.requests.proofs.kinds.pull_request_at.Goals as goal
 

@@ -2,7 +2,6 @@
 -- octets, or nothing.
 use Prim.Native.Nat.{◌+◌}
 use native.Mathlib.Omega.{arith}
-use borrow.Author.Rules.{rules}
 use Rattle.requests.proofs.EachKind.{signed_cut, signed_whole}
 use Rattle.requests.proofs.kinds.signed_request_at.Goals as goal
 

@@ -2,7 +2,6 @@
 -- file, or nothing, and then a table is over its limit, or none.
 use mathlib.Core.Path.{refl}
 use native.Mathlib.Omega.{arith}
-use borrow.Author.Rules.{rules}
 use Rattle.requests.proofs.EachKind.{walk_cut, walk_numbers_over, walk_lines_over, walk_whole}
 use Rattle.requests.proofs.kinds.walk_request_at.Goals as goal
 

@@ -2,7 +2,6 @@
 -- or it is whole and read by the one that the number names.
 use Prim.Native.Nat.{ℕ}
 use mathlib.Core.Path.{◌≡◌, ap, sym, ◌∙◌}
-use borrow.Author.Rules.{rules}
 use Rattle.requests.specs.Requests.{request_of, reading_of, read_by, when_where}
 use Rattle.requests.specs.declared.Request.{Request}
 use Rattle.requests.specs.declared.Request.TheVariants.{WhenWhere}

@@ -2,7 +2,6 @@
 -- plan, or what is behind it, or nothing, and then the destination is over its limit, or not.
 use mathlib.Core.Path.{refl}
 use native.Mathlib.Omega.{arith}
-use borrow.Author.Rules.{rules}
 use Rattle.requests.proofs.EachKind.{write_cut, write_room_over, write_whole}
 use Rattle.requests.proofs.kinds.write_request_at.Goals as goal
 

@@ -3,7 +3,6 @@ use mathlib.Core.Path.{◌≡◌, ◌∙◌}
 use mathlib.Core.List.{List, [], ◌∷◌}
 use Prim.Native.Nat.{ℕ, ◌+◌}
 use native.Mathlib.Numerals.{unary_clauses}
-use borrow.Author.Rules.{rules}
 use lib.ListN.{get_or}
 use Rattle.octets.specs.BigEndian.{be_at}
 use Rattle.requests.proofs.numbers.two_octets.Goals as goal
