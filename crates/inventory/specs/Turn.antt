@@ -10,7 +10,7 @@ use Rattle.index.specs.declared.refusal.Refusal.TheVariants as refusal
 use Rattle.reading.specs.declared.Seen.{Seen}
 use Rattle.reading.specs.declared.Seen.TheVariants as seen
 use Rattle.inventory.specs.declared.turn.Due.{Due}
-use Rattle.inventory.specs.declared.turn.Due.TheVariants.{NoLine, Line, LastLine}
+use Rattle.inventory.specs.declared.turn.Due.TheVariants.{NoLine, Line}
 
 -- a section that completes a submessage makes its line due
 abbrev pub due_by : Bool → Due

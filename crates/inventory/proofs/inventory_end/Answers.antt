@@ -1,6 +1,5 @@
 -- `inventory_end` meets its contract: case by case.
 use mathlib.Core.Path.{◌∙◌}
-use borrow.Author.Rules.{rules}
 use Rattle.inventory.specs.End.{inventory_end}
 use Rattle.inventory.proofs.inventory_end.Goals as goal
 

@@ -1,12 +1,11 @@
 -- `put_at` meets its contract. The loop keeps that the octets so far are copied.
-use Prim.Native.Nat.{ℕ, ◌+◌, ◌-◌, ◌≤◌, ◌<◌}
+use Prim.Native.Nat.{ℕ, ◌+◌, ◌≤◌, ◌<◌}
 use native.Mathlib.Omega.{arith}
 use native.Mathlib.Numerals.{add-one}
 use mathlib.Core.Path.{◌≡◌, refl, ap, ◌∙◌}
 use mathlib.Core.List.{List, append_assoc}
 use lib.ListN.{length, get_or, set, length-set}
 use lib.Seq.{paste, paste-zero, paste-suc, take_all}
-use borrow.Author.Rules.{rules}
 use Rattle.inventory.specs.Lines.{put_in_text}
 use Rattle.inventory.proofs.lines.put_at.Goals as goal
 use Rattle.inventory.proofs.lines.put_at.Invariants.{Copied}

@@ -1,6 +1,5 @@
 -- `put_line` meets its contract: it fits, or not.
 use native.Mathlib.Omega.{arith}
-use borrow.Author.Rules.{rules}
 use mathlib.Core.Path.{refl, ap, ◌∙◌}
 use lib.ListN.{length}
 use Rattle.inventory.proofs.Parts.{written_length}

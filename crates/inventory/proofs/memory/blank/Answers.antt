@@ -1,5 +1,4 @@
 -- `blank` meets its contract.
-use borrow.Author.Rules.{rules}
 use Rattle.inventory.proofs.memory.blank.Goals as goal
 
 pub returns : goal.returns

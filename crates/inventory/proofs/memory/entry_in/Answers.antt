@@ -1,5 +1,4 @@
 -- `entry_in` meets its contract.
-use borrow.Author.Rules.{rules}
 use Rattle.inventory.proofs.memory.entry_in.Goals as goal
 
 pub returns : goal.returns

@@ -1,5 +1,4 @@
 -- `first_surface` meets its contract: by whether there are surfaces.
-use borrow.Author.Rules.{rules}
 use Rattle.inventory.specs.Inventory.{first_surface}
 use Rattle.inventory.proofs.memory.first_surface.Goals as goal
 

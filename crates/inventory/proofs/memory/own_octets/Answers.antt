@@ -1,5 +1,4 @@
 -- `own_octets` meets its contract: past the file, up to its end, or inside it.
-use borrow.Author.Rules.{rules}
 use Rattle.index.specs.Decoded.{own_octets}
 use Rattle.inventory.proofs.Parts.{past_part, to_end_part, middle}
 use Rattle.inventory.proofs.memory.own_octets.Goals as goal

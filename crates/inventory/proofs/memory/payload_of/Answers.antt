@@ -3,7 +3,6 @@ use mathlib.Core.Path.{ap, ◌∙◌}
 use mathlib.Core.List.{List}
 use Prim.Native.Nat.{ℕ}
 use lib.ListN.{drop}
-use borrow.Author.Rules.{rules}
 use Rattle.index.specs.Decoded.{payload_of}
 use Rattle.inventory.proofs.Parts.{past, to_end}
 use Rattle.inventory.proofs.memory.payload_of.Goals as goal

@@ -1,6 +1,5 @@
 -- `remembered` meets its contract: by what was due.
 use mathlib.Core.Path.{◌∙◌}
-use borrow.Author.Rules.{rules}
 use Rattle.inventory.specs.Memory.{remembered}
 use Rattle.inventory.proofs.memory.remembered.Goals as goal
 

@@ -1,6 +1,5 @@
 -- `stopped` meets its contract: by what is seen.
 use mathlib.Core.Path.{◌∙◌}
-use borrow.Author.Rules.{rules}
 use Rattle.inventory.specs.Turn.{stopped_by}
 use Rattle.inventory.proofs.turn.stopped.Goals as goal
 
