@@ -144,6 +144,10 @@ module _ {file rows₀ : List ℕ} {lines : ℕ} {room : Room} {before : Tally} 
         let stands = passes_stands file at.reading what.sees in
         omega (arith, stands.inside, stands.forward, stands.later)
 
+    pub falls_to : {at' : Standing} → at' ≡ passed_row at s next
+        → length file - at'.reading.cursor.at.0 < length file - at.reading.cursor.at.0
+    falls_to same = rw same falls
+
     pub goes : {at' : Standing} {span' : Span} {local' : LocalUsePlace} {places' : List Place} {rows' : List ℕ}
         → behind (force_in at span local places) s next.cursor (place at.sections) ≡ force_in at span' local' places'
         → at' ≡ passed_row at s next → rows' ≡ row_put at.sections s rows

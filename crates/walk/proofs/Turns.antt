@@ -358,3 +358,18 @@ falls file t u going less =
     rw going
     (by_test (λ (n : ℕ). n < suc (length file - t.reading.cursor.at.0)) u.going
     (λ g. let l = less g in omega (arith, l.0, l.1)) λ g. omega arith)
+
+-- a turn of the loop of `walk`: a step, and the line that it left due is stored
+pub record Next (file rows₀ : List ℕ) (lines₀ : List Line) (t u : Tally) (rows : List ℕ) (lines : List Line) : Type 0 where
+  pub held : Held file rows₀ lines₀ u rows lines
+  pub fewer : left_of file u < left_of file t
+
+pub next : {file rows₀ : List ℕ} {lines₀ : List Line} {t u : Tally} {rows rows' : List ℕ} {lines lines' : List Line}
+    → length rows₀ < 2 ^ 64 → length lines₀ < 2 ^ 64 → length lines ≡ length lines₀ → t.going ≡ true → Held file rows₀ lines₀ t rows lines
+    → u ≡ (step_of file (length lines₀) t rows).tally → rows' ≡ (step_of file (length lines₀) t rows).rows
+    → lines' ≡ lines_after u.due u.slot u.line lines
+    → Next file rows₀ lines₀ t u rows' lines'
+next {file = file} {rows₀ = rows₀} {lines₀ = lines₀} {t = t} {rows = rows} {lines = lines} fits₁ fits₂ same going held tally table put =
+    let left = stepped file rows₀ lines₀ fits₁ fits₂ lines t rows going (held.on going) in
+    rw (put, table, tally, ← same)
+    (record { held = left.held; fewer = falls file t (step_of file (length lines) t rows).tally going left.less })

@@ -1,12 +1,6 @@
--- `step` meets its contract: what is to come from each section on is the whole step.
-use mathlib.Core.Path.{refl, ap, ◌∙◌}
-use Prim.Native.Nat.{◌-◌, ◌<◌}
-use native.Mathlib.Omega.{arith}
+-- What `step` keeps from each section on, and what is left of the file.
+use Prim.Native.Nat.{◌-◌}
 use lib.ListN.{length}
-use borrow.Author.Rules.{rules}
-use Rattle.standing.specs.declared.Standing.{Standing}
-use Rattle.standing.proofs.Passed.{in_force_local, in_force_kept, in_force_early}
-use Rattle.walk.proofs.Steps as N
 use Rattle.walk.proofs.Steps.{Stepping}
 use Rattle.walk.proofs.lines.step.Given as goal
 
