@@ -19,7 +19,6 @@ use Rattle.index.specs.declared.line.MessageEnd.TheVariants.{GoesOn, ClosedAt}
 use Rattle.index.specs.declared.line.Line.{Line}
 use Rattle.index.specs.declared.refusal.Refusal.TheVariants as refusal
 use Rattle.index.specs.declared.refusal.Outcome.{Outcome}
-use Rattle.index.specs.declared.refusal.Outcome.TheVariants as outcome
 use Rattle.index.specs.declared.listed.Listed.{Listed}
 use Rattle.index.specs.Bounds.{most_octets}
 use Rattle.index.specs.declared.bounds.Room.{Room}

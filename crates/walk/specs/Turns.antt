@@ -25,7 +25,7 @@ use Rattle.index.specs.declared.refusal.Outcome.TheVariants as outcome
 use Rattle.index.specs.declared.listed.Listed.{Listed}
 use Rattle.index.specs.Bounds.{most_octets}
 use Rattle.index.specs.declared.bounds.Room.{Room}
-use Rattle.reading.specs.Reading.{reading, start, seen}
+use Rattle.reading.specs.Reading.{start, seen}
 use Rattle.reading.specs.declared.Reading.{Reading}
 use Rattle.reading.specs.declared.Seen.{Seen}
 use Rattle.reading.specs.declared.Seen.TheVariants.{

@@ -86,7 +86,7 @@ fn refused(t: Tally, why: Refusal, section: Section) -> Tally
 }
 
 // Before the first turn: a file over 2^40 octets is refused. That it is octets is said for the loop,
-// whose proof, by hand, has no other word of it.
+// which keeps it.
 pub(crate) fn begin(file: &[u8]) -> Tally
     ensures tally { result ≡ begun_of (length file.now) }
     ensures octets { IsOctets file.now }

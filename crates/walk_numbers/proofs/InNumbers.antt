@@ -32,7 +32,7 @@ use Rattle.walk_numbers.specs.Moves.{
   misplaced_lines,
 }
 use Rattle.standing.specs.declared.Standing.{Standing}
-use Rattle.reading.specs.Reading.{reading, seen}
+use Rattle.reading.specs.Reading.{seen}
 use Rattle.reading.specs.declared.Reading.{Reading}
 use Rattle.reading.specs.declared.Seen.TheVariants.{Passes, Closes, Misplaced}
 use Rattle.reading.proofs.Moves.{seen_again}

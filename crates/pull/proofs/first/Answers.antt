@@ -1,5 +1,4 @@
 -- `first` meets its contract: the reading's start, and nothing told.
-use borrow.Author.Rules.{rules}
 use Rattle.pull.specs.Calls.{first_of}
 use Rattle.pull.proofs.first.Goals as goal
 

@@ -1,5 +1,4 @@
 -- `further` meets its contract: the last place of all has none behind it.
-use borrow.Author.Rules.{rules}
 use borrow.Author.Tests.{lt-ltb, le-ltb}
 use Rattle.pull.specs.Calls.{further}
 use Rattle.pull.proofs.further.Goals as goal

@@ -1,5 +1,4 @@
 -- `hand_out` meets its contract: the section at its place, and the place behind it.
-use borrow.Author.Rules.{rules}
 use Rattle.pull.proofs.hand_out.Goals as goal
 
 pub returns : goal.returns

@@ -1,6 +1,5 @@
 -- `put_passed` meets its contract: the row is stored, or nothing changes.
 use mathlib.Core.Path.{◌∙◌}
-use borrow.Author.Rules.{rules}
 use Rattle.walk.specs.Turns.{rows_after}
 use Rattle.walk.proofs.lines.put_passed.Goals as goal
 

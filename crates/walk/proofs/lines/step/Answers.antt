@@ -1,7 +1,6 @@
 -- `step` meets its contract: what is to come from each section on is the whole step.
-use mathlib.Core.Path.{refl, ap, ◌∙◌}
+use mathlib.Core.Path.{refl, ◌∙◌}
 use native.Mathlib.Omega.{arith}
-use Rattle.standing.specs.declared.Standing.{Standing}
 use Rattle.standing.proofs.Passed.{in_force_local, in_force_kept, in_force_early}
 use Rattle.walk.proofs.Steps as N
 use Rattle.walk.proofs.lines.step.Goals as goal

@@ -1,6 +1,5 @@
 -- `begin` meets its contract: a file is too long or not, and octets are what it is made of.
 use mathlib.Core.Path.{◌∙◌}
-use borrow.Author.Rules.{rules}
 use borrow.Author.Tests.{lt-ltb, le-ltb}
 use Rattle.walk.specs.Turns.{begun_of}
 use Rattle.walk.proofs.tally.begin.Goals as goal

@@ -1,6 +1,5 @@
 -- `closed` meets its contract: a table is full or not.
 use mathlib.Core.Path.{◌∙◌}
-use borrow.Author.Rules.{rules}
 use borrow.Author.Tests.{le-leb, lt-leb}
 use Rattle.walk.specs.Turns.{closed_of}
 use Rattle.walk.proofs.tally.closed.Goals as goal

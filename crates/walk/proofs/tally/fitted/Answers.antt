@@ -1,6 +1,5 @@
 -- `fitted` meets its contract: the section table is full or not.
 use mathlib.Core.Path.{◌∙◌}
-use borrow.Author.Rules.{rules}
 use borrow.Author.Tests.{le-leb, lt-leb}
 use Rattle.walk.specs.Turns.{fitted_of}
 use Rattle.walk.proofs.tally.fitted.Goals as goal

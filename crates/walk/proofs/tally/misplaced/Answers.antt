@@ -1,6 +1,5 @@
 -- `misplaced` meets its contract: by whether the section completes a submessage, and whether there is room for its line.
 use mathlib.Core.Path.{sym, ◌∙◌}
-use borrow.Author.Rules.{rules}
 use borrow.Author.Tests.{le-leb, lt-leb}
 use Rattle.walk.specs.Turns.{misplaced_of}
 use Rattle.walk.proofs.tally.misplaced.Goals as goal

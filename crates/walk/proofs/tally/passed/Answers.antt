@@ -1,5 +1,4 @@
 -- `passed` meets its contract: what its callees make of the count and of what is in force.
-use borrow.Author.Rules.{rules}
 use Rattle.walk.proofs.tally.passed.Goals as goal
 
 pub returns : goal.returns

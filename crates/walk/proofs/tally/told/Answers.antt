@@ -1,5 +1,4 @@
 -- `told` meets its contract: what its callees make of the line and of the next submessage.
-use borrow.Author.Rules.{rules}
 use Rattle.walk.proofs.tally.told.Goals as goal
 
 pub returns : goal.returns

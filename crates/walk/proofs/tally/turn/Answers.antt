@@ -1,6 +1,5 @@
 -- `turn` meets its contract: by what is seen.
 use mathlib.Core.Path.{◌∙◌}
-use borrow.Author.Rules.{rules}
 use Rattle.walk.specs.Turns.{by_seen}
 use Rattle.walk.proofs.tally.turn.Goals as goal
 

@@ -1,5 +1,4 @@
 -- `unstarted` meets its contract: its callees' answers are put together.
-use borrow.Author.Rules.{rules}
 use Rattle.walk.proofs.tally.unstarted.Goals as goal
 
 pub returns : goal.returns

@@ -1,5 +1,4 @@
 -- `end_place` meets its contract: the message goes on, or is closed.
-use borrow.Author.Rules.{rules}
 use Rattle.walk_numbers.specs.Numbers.{end_place}
 use Rattle.walk_numbers.proofs.columns.end_place.Goals as goal
 

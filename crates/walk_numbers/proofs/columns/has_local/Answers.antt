@@ -1,5 +1,4 @@
 -- `has_local` meets its contract: there is a section 2, or there is none.
-use borrow.Author.Rules.{rules}
 use Rattle.walk_numbers.specs.Numbers.{has_local}
 use Rattle.walk_numbers.proofs.columns.has_local.Goals as goal
 

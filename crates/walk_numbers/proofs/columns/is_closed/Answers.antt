@@ -1,5 +1,4 @@
 -- `is_closed` meets its contract: the message goes on, or is closed.
-use borrow.Author.Rules.{rules}
 use Rattle.walk_numbers.specs.Numbers.{is_closed}
 use Rattle.walk_numbers.proofs.columns.is_closed.Goals as goal
 

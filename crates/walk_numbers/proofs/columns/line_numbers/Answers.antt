@@ -1,5 +1,4 @@
 -- `line_numbers` meets its contract: each number is the line's.
-use borrow.Author.Rules.{rules}
 use Rattle.walk_numbers.specs.Numbers.{line_numbers}
 use Rattle.walk_numbers.proofs.columns.line_numbers.Goals as goal
 

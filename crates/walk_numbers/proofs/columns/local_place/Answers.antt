@@ -1,5 +1,4 @@
 -- `local_place` meets its contract: there is a section 2, or there is none.
-use borrow.Author.Rules.{rules}
 use Rattle.walk_numbers.specs.Numbers.{local_place}
 use Rattle.walk_numbers.proofs.columns.local_place.Goals as goal
 

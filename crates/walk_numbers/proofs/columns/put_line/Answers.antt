@@ -1,6 +1,5 @@
 -- `put_line` meets its contract: the line's numbers are stored.
 use mathlib.Core.Path.{◌∙◌}
-use borrow.Author.Rules.{rules}
 use Rattle.walk_numbers.proofs.columns.put_line.Goals as goal
 
 pub returns : goal.returns

@@ -1,12 +1,11 @@
 -- `put_numbers` meets its contract. The loop keeps that the numbers so far are stored.
-use Prim.Native.Nat.{ℕ, ◌+◌, ◌-◌, ◌≤◌, ◌<◌}
+use Prim.Native.Nat.{ℕ, ◌+◌, ◌≤◌, ◌<◌}
 use native.Mathlib.Omega.{arith}
 use native.Mathlib.Numerals.{add-one}
 use mathlib.Core.Path.{◌≡◌, sym, ap, ◌∙◌}
 use mathlib.Core.List.{List, [], ◌∷◌, ◌++◌}
 use lib.ListN.{length, take, get_or, set}
 use lib.Seq.{length-take-le, take-suc, take_all}
-use borrow.Author.Rules.{rules}
 use Rattle.standing.proofs.Put.{put_none, put_more, put_one, put_length}
 use Rattle.standing.specs.Put.{put_at}
 use Rattle.walk_numbers.proofs.columns.put_numbers.Goals as goal

@@ -1,5 +1,4 @@
 -- `unbegun` meets its contract: its callees' answers are put together.
-use borrow.Author.Rules.{rules}
 use Rattle.walk_numbers.proofs.moves.unbegun.Goals as goal
 
 pub returns : goal.returns

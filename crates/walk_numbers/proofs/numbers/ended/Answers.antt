@@ -1,5 +1,4 @@
 -- `ended` meets its contract: the counts, and the end in numbers.
-use borrow.Author.Rules.{rules}
 use Rattle.walk_numbers.proofs.numbers.ended.Goals as goal
 
 pub returns : goal.returns

@@ -1,6 +1,5 @@
 -- `too_long` meets its contract: nothing is told.
 use mathlib.Core.Path.{◌∙◌}
-use borrow.Author.Rules.{rules}
 use Rattle.walk_numbers.proofs.numbers.too_long.Goals as goal
 
 pub returns : goal.returns

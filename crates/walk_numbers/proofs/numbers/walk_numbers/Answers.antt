@@ -41,11 +41,11 @@ passing c =
     let sees = sym c.glance-seen.ensures ∙ c.in-Passes.is in
     elim c.if-completes.branch [
       | then-completes+else-room-at w ↦
-        N.passing_behind _ _ _ c.loop-section.invariant sees (sym c.completes.ensures ∙ w.if-completes.true)
-        (omega (arith, w.if-room-at.false, ap (λ (room : Room). room.lines) c.room_in-room.ensures)) (w.at-is ∙ w.told_line-at.ensures)
-        (w.lines-is ∙ w.put_line.ensures ∙ rw w.open_line.ensures)
+          N.passing_behind _ _ _ c.loop-section.invariant sees (sym c.completes.ensures ∙ w.if-completes.true)
+          (omega (arith, w.if-room-at.false, ap (λ (room : Room). room.lines) c.room_in-room.ensures)) (w.at-is ∙ w.told_line-at.ensures)
+          (w.lines-is ∙ w.put_line.ensures ∙ rw w.open_line.ensures)
       | else-completes w ↦
-        N.passing_on _ _ _ c.loop-section.invariant sees (sym c.completes.ensures ∙ w.if-completes.false) w.at-is w.lines-is
+          N.passing_on _ _ _ c.loop-section.invariant sees (sym c.completes.ensures ∙ w.if-completes.false) w.at-is w.lines-is
     ]
 
 kept_number : (c : Joined-completes) → c.in-Passes.section.number < 8
@@ -53,7 +53,8 @@ kept_number c = let p = passing c in passes_kept _ _ p.kept.settled p.sees
 
 pub returns-then-file-gt-MOST_OCTETS : goal.returns-then-file-gt-MOST_OCTETS
 returns-then-file-gt-MOST_OCTETS c =
-    let whole = finished _ _ _ unbegun (T.too_long 15 line_numbers fifteen _ _ _ _ (in_room _) c.if-file-gt-MOST_OCTETS.true) c.too_long.ensures in
+    let whole = finished _ _ _ unbegun (T.too_long 15 line_numbers fifteen _ _ _ _ (in_room _) c.if-file-gt-MOST_OCTETS.true)
+    c.too_long.ensures in
     record { answer = whole.0; rows = whole.1.0; lines = whole.1.1 }
 
 pub loop-section-init : goal.loop-section-init
@@ -65,7 +66,8 @@ pub returns-then-room-at : goal.returns-then-room-at
 returns-then-room-at c =
     let whole = finished _ _ _ c.loop-section.at
     (T.no_line 15 line_numbers fifteen _ _ _ _ (in_room _) c.loop-section.invariant (sym c.glance-seen.ensures ∙ c.in-Passes.is)
-    (sym c.completes.ensures ∙ c.if-completes.true) (omega (arith, c.if-room-at.true, ap (λ (room : Room). room.lines) c.room_in-room.ensures)))
+    (sym c.completes.ensures ∙ c.if-completes.true)
+    (omega (arith, c.if-room-at.true, ap (λ (room : Room). room.lines) c.room_in-room.ensures)))
     c.refused.ensures in
     record { answer = whole.0; rows = whole.1.0; lines = whole.1.1 }
 
@@ -73,7 +75,8 @@ pub returns-then-room-at-2 : goal.returns-then-room-at-2
 returns-then-room-at-2 c =
     let p = passing (goal.at.returns-then-room-at-2 c).Joined-completes in
     let whole = finished _ _ _ c.if-completes.at
-    (T.no_row 15 line_numbers fifteen _ _ _ _ (in_room _) p.kept p.sees p.alone (omega (arith, c.if-room-at-2.true, ap (λ (room : Room). room.rows) c.room_in-room.ensures)))
+    (T.no_row 15 line_numbers fifteen _ _ _ _ (in_room _) p.kept p.sees p.alone
+    (omega (arith, c.if-room-at-2.true, ap (λ (room : Room). room.rows) c.room_in-room.ensures)))
     c.refused-then-room-at-2.ensures in
     record { answer = whole.0; rows = whole.1.0; lines = whole.1.1 }
 
@@ -91,7 +94,8 @@ loop-section-smaller-then-section-gt-NUMBER c =
 pub loop-section-preserved-then-section-gt-NUMBER : goal.loop-section-preserved-then-section-gt-NUMBER
 loop-section-preserved-then-section-gt-NUMBER c =
     let joined = (goal.at.loop-section-preserved-then-section-gt-NUMBER c).Joined-completes in
-    N.passed _ _ _ (passing joined) (omega (arith, c.if-room-at-2.false, ap (λ (room : Room). room.rows) c.room_in-room.ensures)) (omega arith)
+    N.passed _ _ _ (passing joined)
+    (omega (arith, c.if-room-at-2.false, ap (λ (room : Room). room.rows) c.room_in-room.ensures)) (omega arith)
     (in_force_kept c.if-completes.at _ _ _ _ c.in-Passes.next.cursor _ c.if-section-gt-NUMBER.true (kept_number joined))
     c.passed_row-at.ensures c.put_row.ensures
 
@@ -103,7 +107,8 @@ loop-section-smaller-then-section-eq-NUMBER c =
 pub loop-section-preserved-then-section-eq-NUMBER : goal.loop-section-preserved-then-section-eq-NUMBER
 loop-section-preserved-then-section-eq-NUMBER c =
     let joined = (goal.at.loop-section-preserved-then-section-eq-NUMBER c).Joined-completes in
-    N.passed _ _ _ (passing joined) (omega (arith, c.if-room-at-2.false, ap (λ (room : Room). room.rows) c.room_in-room.ensures)) (omega arith)
+    N.passed _ _ _ (passing joined)
+    (omega (arith, c.if-room-at-2.false, ap (λ (room : Room). room.rows) c.room_in-room.ensures)) (omega arith)
     (in_force_local c.if-completes.at _ _ _ _ c.in-Passes.next.cursor _ c.if-section-eq-NUMBER.true)
     c.passed_row-at.ensures c.put_row.ensures
 
@@ -123,7 +128,8 @@ loop-section-smaller-else-section-eq-NUMBER c =
 pub loop-section-preserved-else-section-eq-NUMBER : goal.loop-section-preserved-else-section-eq-NUMBER
 loop-section-preserved-else-section-eq-NUMBER c =
     let joined = (goal.at.loop-section-preserved-else-section-eq-NUMBER c).Joined-completes in
-    N.passed _ _ _ (passing joined) (omega (arith, c.if-room-at-2.false, ap (λ (room : Room). room.rows) c.room_in-room.ensures)) (omega arith)
+    N.passed _ _ _ (passing joined)
+    (omega (arith, c.if-room-at-2.false, ap (λ (room : Room). room.rows) c.room_in-room.ensures)) (omega arith)
     (in_force_early c.if-completes.at _ _ _ _ c.in-Passes.next.cursor _ c.if-section-gt-NUMBER.false c.if-section-eq-NUMBER.false
     ∙ rw c.span_after-span.ensures refl)
     c.passed_row-at.ensures c.put_row.ensures
@@ -140,7 +146,8 @@ pub returns-then-room-at-4 : goal.returns-then-room-at-4
 returns-then-room-at-4 c =
     let whole = finished _ _ _ c.loop-section.at
     (T.no_line_closing 15 line_numbers fifteen _ _ _ _ (in_room _) c.loop-section.invariant (sym c.glance-seen.ensures ∙ c.in-Closes.is)
-    (omega (arith, c.if-room-at-3.false, ap (λ (room : Room). room.rows) c.room_in-room.ensures)) (omega (arith, c.if-room-at-4.true, ap (λ (room : Room). room.lines) c.room_in-room.ensures)))
+    (omega (arith, c.if-room-at-3.false, ap (λ (room : Room). room.rows) c.room_in-room.ensures))
+    (omega (arith, c.if-room-at-4.true, ap (λ (room : Room). room.lines) c.room_in-room.ensures)))
     c.refused-then-room-at-4.ensures in
     record { answer = whole.0; rows = whole.1.0; lines = whole.1.1 }
 
@@ -152,7 +159,8 @@ pub loop-section-preserved : goal.loop-section-preserved
 loop-section-preserved c =
     rw c.unstated-span-in-Closes.ensures
     (N.closed _ _ _ c.loop-section.invariant (sym c.glance-seen.ensures ∙ c.in-Closes.is)
-    (omega (arith, c.if-room-at-3.false, ap (λ (room : Room). room.rows) c.room_in-room.ensures)) (omega (arith, c.if-room-at-4.false, ap (λ (room : Room). room.lines) c.room_in-room.ensures))
+    (omega (arith, c.if-room-at-3.false, ap (λ (room : Room). room.rows) c.room_in-room.ensures))
+    (omega (arith, c.if-room-at-4.false, ap (λ (room : Room). room.lines) c.room_in-room.ensures))
     c.closed_both-at.ensures c.put_row-in-Closes.ensures (c.put_line-in-Closes.ensures ∙ rw c.closed_line.ensures))
 
 pub returns-in-Misplaced : goal.returns-in-Misplaced
