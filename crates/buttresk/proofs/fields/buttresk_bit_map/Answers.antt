@@ -1,5 +1,4 @@
 -- `buttresk_bit_map` meets its contract: the section has its fields, or it has none.
-use borrow.Author.Rules.{rules}
 use Rattle.buttresk.specs.Fields.{bit_map_fields}
 use Rattle.buttresk.proofs.fields.buttresk_bit_map.Goals as goal
 

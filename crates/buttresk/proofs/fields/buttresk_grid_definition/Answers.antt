@@ -1,5 +1,4 @@
 -- `buttresk_grid_definition` meets its contract: the section has its fields, or it has none.
-use borrow.Author.Rules.{rules}
 use Rattle.buttresk.specs.Fields.{grid_fields}
 use Rattle.buttresk.proofs.fields.buttresk_grid_definition.Goals as goal
 

@@ -1,6 +1,5 @@
 -- `buttresk_identification` meets its contract: the section has its fields, or it has none.
 use mathlib.Core.Path.{◌∙◌}
-use borrow.Author.Rules.{rules}
 use Rattle.buttresk.specs.Fields.{identification_fields}
 use Rattle.buttresk.proofs.fields.buttresk_identification.Goals as goal
 

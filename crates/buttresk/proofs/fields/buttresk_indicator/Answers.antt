@@ -1,5 +1,4 @@
 -- `buttresk_indicator` meets its contract: the section has its fields, or it has none.
-use borrow.Author.Rules.{rules}
 use Rattle.buttresk.specs.Fields.{indicator_fields}
 use Rattle.buttresk.proofs.fields.buttresk_indicator.Goals as goal
 

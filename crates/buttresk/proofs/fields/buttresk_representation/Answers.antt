@@ -1,5 +1,4 @@
 -- `buttresk_representation` meets its contract: the section has its fields, or it has none.
-use borrow.Author.Rules.{rules}
 use Rattle.buttresk.specs.Fields.{representation_fields}
 use Rattle.buttresk.proofs.fields.buttresk_representation.Goals as goal
 

@@ -1,6 +1,5 @@
 -- `buttresk_read_list` meets its contract: the answer in numbers, and the table that the reader left.
 use mathlib.Core.Path.{◌∙◌}
-use borrow.Author.Rules.{rules}
 use Rattle.buttresk.proofs.listing.buttresk_read_list.Goals as goal
 
 pub returns : goal.returns

@@ -1,5 +1,4 @@
 -- `read_answer_of` meets its contract: the entries, and each number of the end.
-use borrow.Author.Rules.{rules}
 use Rattle.buttresk.specs.Lists.{read_answer_of}
 use Rattle.buttresk.proofs.listing.read_answer_of.Goals as goal
 

@@ -1,6 +1,5 @@
 -- `buttresk_product_definition` meets its contract: the number names a reading, or it names none.
 use mathlib.Core.Path.{sym, ◌∙◌}
-use borrow.Author.Rules.{rules}
 use Rattle.buttresk.specs.Product.{fields_by, product_fields}
 use Rattle.buttresk.proofs.product.buttresk_product_definition.Goals as goal
 

@@ -1,6 +1,5 @@
 -- `buttresk_when_and_where` meets its contract: the number names a reading, or it names none.
 use mathlib.Core.Path.{sym, ◌∙◌}
-use borrow.Author.Rules.{rules}
 use Rattle.buttresk.specs.Product.{when_where_by, when_where_fields}
 use Rattle.buttresk.proofs.product.buttresk_when_and_where.Goals as goal
 

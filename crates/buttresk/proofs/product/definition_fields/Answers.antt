@@ -1,5 +1,4 @@
 -- `definition_fields` meets its contract: the payload has its fields, or it has none.
-use borrow.Author.Rules.{rules}
 use Rattle.buttresk.specs.Product.{definition_fields}
 use Rattle.buttresk.proofs.product.definition_fields.Goals as goal
 

@@ -1,5 +1,4 @@
 -- `octet_field` meets its contract: there is an octet, or there is none.
-use borrow.Author.Rules.{rules}
 use Rattle.buttresk.specs.Product.{octet_field}
 use Rattle.buttresk.proofs.product.octet_field.Goals as goal
 

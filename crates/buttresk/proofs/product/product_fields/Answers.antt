@@ -1,5 +1,4 @@
 -- `product_fields` meets its contract: each field is what the library says, in numbers.
-use borrow.Author.Rules.{rules}
 use Rattle.buttresk.specs.Product.{fields_of}
 use Rattle.buttresk.proofs.product.product_fields.Goals as goal
 

@@ -1,5 +1,4 @@
 -- `surfaces_field` meets its contract: there are both surfaces, or there is none.
-use borrow.Author.Rules.{rules}
 use Rattle.buttresk.specs.Product.{surfaces_field}
 use Rattle.buttresk.proofs.product.surfaces_field.Goals as goal
 

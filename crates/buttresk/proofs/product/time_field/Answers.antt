@@ -1,5 +1,4 @@
 -- `time_field` meets its contract: there is a time, or there is none.
-use borrow.Author.Rules.{rules}
 use Rattle.buttresk.specs.Product.{time_field}
 use Rattle.buttresk.proofs.product.time_field.Goals as goal
 

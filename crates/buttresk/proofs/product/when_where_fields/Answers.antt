@@ -1,5 +1,4 @@
 -- `when_where_fields` meets its contract: time and surfaces are what the library says, in numbers.
-use borrow.Author.Rules.{rules}
 use Rattle.buttresk.specs.Product.{when_where_numbers}
 use Rattle.buttresk.proofs.product.when_where_fields.Goals as goal
 

@@ -1,6 +1,5 @@
 -- `buttresk_inventory` meets its contract: the answer in numbers, and the buffer that the inventory left.
 use mathlib.Core.Path.{◌∙◌}
-use borrow.Author.Rules.{rules}
 use Rattle.buttresk.proofs.storing.buttresk_inventory.Goals as goal
 
 pub returns : goal.returns

@@ -1,6 +1,5 @@
 -- `buttresk_publish` meets its contract: the answer in numbers, and the destination that the public copy left.
 use mathlib.Core.Path.{◌∙◌}
-use borrow.Author.Rules.{rules}
 use Rattle.buttresk.proofs.storing.buttresk_publish.Goals as goal
 
 pub returns : goal.returns

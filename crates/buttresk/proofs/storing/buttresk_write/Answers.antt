@@ -1,6 +1,5 @@
 -- `buttresk_write` meets its contract: the answer in numbers, and the destination that the writer left.
 use mathlib.Core.Path.{◌∙◌}
-use borrow.Author.Rules.{rules}
 use Rattle.buttresk.proofs.storing.buttresk_write.Goals as goal
 
 pub returns : goal.returns
