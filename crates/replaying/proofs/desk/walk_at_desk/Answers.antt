@@ -1,6 +1,6 @@
 -- `desk::walk_at_desk` meets its contract: the lines that are lent are the desk's first, and those
 -- behind them are as before.
-use Rattle.std.proofs.Common.{◌≡◌, ℕ, ◌-◌, ◌≤◌, ◌++◌, min, List, replicate, take, drop, ap, ◌∙◌, arith}
+use Rattle.std.proofs.Common.{◌≡◌, ℕ, ◌-◌, ◌++◌, min, List, replicate, take, drop, ap, ◌∙◌, arith}
 use Rattle.std.proofs.lemmas.List.{take-replicate, drop-replicate}
 use Rattle.index.specs.declared.line.Line.{Line}
 use Rattle.walk.specs.Tables.{walk_of}
