@@ -2,9 +2,7 @@
 use Prim.Native.Nat.{ℕ, ◌≤◌, ◌<◌}
 use native.Mathlib.Omega.{arith}
 use mathlib.Core.Path.{◌≡◌, refl, sym, ap, subst, ◌∙◌}
-use mathlib.Core.Bool.{Bool, true, false}
 use mathlib.Core.List.{List}
-use lib.Dec.{ltb}
 use lib.ListN.{length}
 use borrow.Author.Tests.{lt-ltb, le-ltb}
 use Rattle.octets.specs.Words.{Not, Iff}
@@ -15,7 +13,6 @@ use Rattle.index.specs.declared.numbers.End.{End}
 use Rattle.index.specs.declared.numbers.StoreEnd.{StoreEnd}
 use Rattle.index.specs.declared.refusal.Outcome.{Outcome}
 use Rattle.index.specs.declared.refusal.Outcome.TheVariants as outcome
-use Rattle.entries.specs.Entries.{text_of}
 use Rattle.inventory.specs.Inventory.{text_into, inventory_by, entries_of, inventory_of}
 use Rattle.inventory.specs.End.{inventory_end}
 use Rattle.entries.proofs.Laws.{written_says_its_list, one_list, one_text}

@@ -1,6 +1,6 @@
 -- The text inventory and its reader (02, Ticket 1): what stands in an inventory, when it is refused
 -- or written, and that it reads back. The walk's own refusals are in the crate `walk_laws`.
-use Rattle.std.specs.Prelude.{ℕ, ◌/◌, ◌≤◌, ◌<◌, ◌≡◌, List, length}
+use Rattle.std.specs.Prelude.{ℕ, ◌≤◌, ◌<◌, ◌≡◌, List, length}
 use Rattle.octets.specs.Words.{Not, Iff}
 use Rattle.index.specs.Bounds.{unlimited}
 use Rattle.index.specs.Numbers.{stored}
