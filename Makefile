@@ -8,7 +8,9 @@
 #                   planted faults, the transcription, the bench
 #   make install    the command, the header, both libraries and their pkg-config file, the man page
 #                   and the completions of bash and zsh, to PREFIX (/usr/local)
-#   make clean      removes build/; target/ is rt's
+#   make target/bin/NAME
+#                   a program of Rattle alone, `gribwalk` or `replay`, which is proved first
+#   make clean      removes build/ and target/; what rt keeps stays in the crates' out/
 #
 # The archive links only into x86-64 programs: on another processor the cross compiler builds the
 # command, and an emulator runs it.
@@ -45,8 +47,9 @@ VERSION = $(shell sed -n 's/^.define BUTTRESK_VERSION *"\(.*\)"$$/\1/p' $(HEADER
 SHARED = libbuttresk.so.1
 
 # The crates that the archive is made of: crates.txt names all of them in one line.
-CRATES = buttresk $(shell sed -n 's/^buttresk: *//p' crates.txt)
-PROVED = crates.txt $(shell find $(CRATES:%=crates/%) -name '*.rt' -o -name '*.antt')
+CRATES = buttresk_c $(shell sed -n 's/^buttresk_c staticlib: *//p' crates.txt)
+SOURCES_OF = $(shell find $(1) -name out -prune -o -name '*.rt' -print -o -name '*.antt' -print)
+PROVED = crates.txt $(call SOURCES_OF,$(CRATES:%=crates/%))
 
 SETUP = CC="$(CC)" RUN="$(RUN)" RT="$(RT)" cli/setup
 AGAIN = $(MAKE) --no-print-directory
@@ -62,13 +65,19 @@ setup:
 
 # Proofs say a great deal: here only which crate is proved, and all of it if one is not.
 $(ARCHIVE): $(PROVED) | setup
-	@mkdir -p $(BUILD)
-	@echo '$(RT) staticlib buttresk (some minutes the first time;' \
+	@mkdir -p $(BUILD) $(@D)
+	@echo '$(RT) lib in crates/buttresk_c (some minutes the first time;' \
 	    'all that it says is in $(BUILD)/proof.log)'
-	@{ $(RT) staticlib buttresk; echo $$? >$(BUILD)/proof.status; } 2>&1 | \
+	@{ (cd crates/buttresk_c && $(RT) lib); echo $$? >$(BUILD)/proof.status; } 2>&1 | \
 	    tee $(BUILD)/proof.log | grep '^rt:'; \
 	read -r status <$(BUILD)/proof.status; \
 	[ "$$status" = 0 ] || { cat $(BUILD)/proof.log; exit "$$status"; }
+	cp crates/buttresk_c/out/libbuttresk_c.a $@
+
+target/bin/%: crates.txt $(call SOURCES_OF,crates)
+	@mkdir -p $(BUILD) $(@D)
+	cd crates/$* && $(RT) run <stdin >../../$(BUILD)/$*.log 2>&1 || { cat ../../$(BUILD)/$*.log; exit 1; }
+	cp crates/$*/out/$* $@
 
 # The archive's code and nothing else. No name is seen that does not begin as the header's do; no
 # code has to be patched when it is loaded (-z text), and no name is left open (-z defs).

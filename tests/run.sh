@@ -12,7 +12,7 @@ fail() {
 }
 
 [ $# -gt 0 ] || fail "usage: tests/run.sh PROGRAM [ARG..]"
-[ -x "$1" ] || fail "$1 is no program (rt check NAME makes target/bin/NAME)"
+[ -x "$1" ] || fail "$1 is no program (make target/bin/NAME makes it)"
 
 # The head of a program of x86-64: "ELF" behind an octet 7f, and 62 (3e) for the processor.
 case $(uname -m),$(od -An -v -tx1 -N20 "$1" | tr -d ' \n') in

@@ -30,7 +30,7 @@ skip() {
 why() {
     for need in "$@"; do
         case $need in
-        replay) [ -x "$replay" ] || echo "no $replay (rt check replay makes it)" ;;
+        replay) [ -x "$replay" ] || echo "no $replay (make target/bin/replay makes it)" ;;
         eccodes) command -v codes_info >/dev/null || echo "eccodes is not installed" ;;
         crate) [ -n "${GRIB_SRC-}" ] || echo "GRIB_SRC names no folder of the crate grib" ;;
         *) command -v "$need" >/dev/null || echo "$need is missing" ;;

@@ -1,14 +1,14 @@
 #!/usr/bin/env -S python3 -B
 """Writes docs/CONTRACTS.md: every public function, its contract in words, and its must-fail edits.
 
-    tests/checks/contracts.py --check [--logs FOLDER]
-    tests/checks/contracts.py --write [--logs FOLDER]
+    tests/checks/contracts.py --check [--log FILE]
+    tests/checks/contracts.py --write [--log FILE]
 
 The words are the comments above functions and definitions, a truth is the first line of its edit,
 and the text that no script can write stands in contracts.md beside this one: the introduction, and
 what is said of a crate. The fact at which an edit was refused is taken from the gate's log of it.
-Without a log it is the fact that the page has now: --check needs no gate, and reads logs only where
-a folder is named; --write reads target/must-fail where none is.
+Without a log it is the fact that the page has now: --check needs no gate, and reads a log only where
+one is named; --write reads build/gate.log where none is.
 
 --check fails, and says what differs, if the page is not what would be written; both fail if an edit
 has no fact, and if the introduction names something that is not there.
@@ -22,7 +22,7 @@ import textwrap
 from pathlib import Path
 
 from declared import all_declared, changed_by, is_of_a_contract, public_functions
-from edits import LOGS, ROOT, all_edits, judged, log_of
+from edits import LOG, ROOT, all_edits, judged, refusals
 from references import missing_of
 
 PAGE = ROOT / "docs/CONTRACTS.md"
@@ -46,7 +46,8 @@ def by_crate(text):
 
 def crates():
     lines = (ROOT / "crates.txt").read_text().splitlines()
-    return [line.split(":")[0] for line in lines if ":" in line and not line.startswith("#")]
+    return [line.split()[0].rstrip(":") for line in lines
+            if ":" in line and not line.startswith("#")]
 
 
 def facts_on_page():
@@ -58,12 +59,13 @@ def facts_on_page():
     return found
 
 
-def facts_of(edits, logs):
+def facts_of(edits, log):
     """The fact of each edit, how many of them are by a log, and what is wrong."""
     found, by_log, wrong = facts_on_page(), 0, []
+    said = refusals(log) if log else {}
     for edit in edits:
-        if logs and log_of(edit, logs).exists():
-            found[edit.crate, edit.name], fault = judged(edit, logs)
+        if (edit.crate, edit.name) in said:
+            found[edit.crate, edit.name], fault = judged(edit, said)
             by_log += 1
             wrong += [fault] if fault else []
         elif (edit.crate, edit.name) not in found:
@@ -135,10 +137,10 @@ def silent_functions():
         yield from (f"{crate}::{item.name}" for item in public_functions(crate) if not item.words)
 
 
-def written(logs):
+def written(log):
     """The page, what was counted, and what is wrong."""
     edits = all_edits()
-    facts, by_log, wrong = facts_of(edits, logs)
+    facts, by_log, wrong = facts_of(edits, log)
     template = TEMPLATE.read_text()
     opening, said = by_crate(template)
     names = [" ".join(name.split()) for name in re.findall(r"`([^`]+)`", template)]
@@ -164,9 +166,9 @@ def main():
     what = asked.add_mutually_exclusive_group(required=True)
     what.add_argument("--check", action="store_true", help="fail if the page is another")
     what.add_argument("--write", action="store_true", help="write the page")
-    asked.add_argument("--logs", type=Path, help="the folder of the gate's logs")
+    asked.add_argument("--log", type=Path, help="what the gate said")
     asked = asked.parse_args()
-    page, counts, wrong = written(asked.logs or (LOGS if asked.write else None))
+    page, counts, wrong = written(asked.log or (LOG if asked.write else None))
     if asked.write and not wrong:
         PAGE.write_text(page)
     now = PAGE.read_text() if PAGE.exists() else ""

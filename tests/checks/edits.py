@@ -1,14 +1,19 @@
-"""The must-fail edits, and the fact at which the prover refused each, by the gate's logs."""
+"""The must-fail edits, and the fact at which the prover refused each, by what the gate said."""
 
 import re
 from collections import namedtuple
 from pathlib import Path
 
 ROOT = Path(__file__).resolve().parent.parent.parent
-LOGS = ROOT / "target/must-fail"
-ERROR = re.compile(r"^(\S+?):\d+:\d+: error: (?:`([^`]+)`: )?(.*)$", re.M)
-# A function without a proof file of its own: rattle's search no longer closes what it must.
-SEARCHED = re.compile(r"^fn \w+::(\S+?): no proof: .*`search` does not close `([\w-]+)`", re.M)
+# What the gate, or `rt must-fail`, said.
+LOG = ROOT / "build/gate.log"
+REFUSED = re.compile(
+    r"^rt: must-fail (\w+)/(\w+)\.edit: refused, as it must be(?: \(.*?\))?: (.*)$", re.M
+)
+# An answer that is false now, and a goal that nothing proves any more.
+ERROR = re.compile(r"^(\S+?):\d+:\d+: error: (?:`([^`]+)`: )?(.*)$")
+OPEN = re.compile(r"^note: (\S+?\.rt):(\d+):\d+: .*?\(`([\w-]+)`\)")
+FUNCTION = re.compile(r"\bfn (\w+)")
 # What is said where a proof does not fit, or where only what it cites was refused: no fact.
 UNFIT = "where a rewrite finds nothing"
 NOTHING_FOUND = ("no equation of the list has an instance", "no occurrence of the path's")
@@ -17,12 +22,10 @@ NO_FACT = (
     "on the face ",
     "was not admitted",
     "not in scope",
-    "has no `Need-",
     "has no field",
     "can be named from here",
     "level argument",
     "does not parse",
-    "differ only in the case",
 )
 
 # An edit's crate and name, the truth that it breaks, and its changes: file, old text, new text.
@@ -53,35 +56,39 @@ def all_edits():
     return [edit_of(path) for path in sorted((ROOT / "crates").glob("*/must-fail/*.edit"))]
 
 
-def facts(log):
-    """Places in the proofs, each with the need or the lemma that no longer holds, in the log's
-    order; and apart from them rewrites that find nothing."""
-    found, unfound = [], []
-    for error in ERROR.finditer(log):
-        path, name, said = error.groups()
-        if "/proofs/" in path and name and not any(phrase in said for phrase in NO_FACT):
-            place = path.split("/proofs/", 1)[1].removesuffix(".antt").removesuffix("/Proof")
-            nothing = any(phrase in said for phrase in NOTHING_FOUND)
-            (unfound if nothing else found).append((error.start(), f"{place}: {name}"))
-    for search in SEARCHED.finditer(log):
-        found.append((search.start(), f"{search[1].replace('::', '/')}: {search[2]}"))
-    return [fact for _, fact in sorted(found)], [fact for _, fact in sorted(unfound)]
+def refusals(log):
+    """What the gate said of each edit that it refused, by crate and name."""
+    return {(crate, name): said for crate, name, said in REFUSED.findall(log.read_text())}
 
 
-def log_of(edit, logs):
-    return logs / edit.crate / edit.name / ".log"
+def function_at(crate, file, line):
+    """The function that starts in this line, or below attributes in it."""
+    below = "\n".join((ROOT / "crates" / crate / file).read_text().split("\n")[line - 1:])
+    return FUNCTION.search(below)[1]
 
 
-def judged(edit, logs):
-    """The fact at which an edit was refused, by its log, and what is wrong with the edit."""
-    name, log = f"{edit.crate}/{edit.name}", log_of(edit, logs)
+def fact_of(crate, said):
+    """The place in the proofs with what no longer holds there, and whether it is shown false."""
+    error, left = ERROR.match(said), OPEN.match(said)
+    if left:
+        return f"{function_at(crate, left[1], int(left[2]))}: {left[3]}", True
+    if not error or "/proofs/" not in error[1] or not error[2]:
+        return None, False
+    if any(phrase in error[3] for phrase in NO_FACT):
+        return None, False
+    place = re.sub(r"/(Answers|Invariants|Proof)$", "",
+                   error[1].split("/proofs/", 1)[1].removesuffix(".antt"))
+    return f"{place}: {error[2]}", not any(phrase in error[3] for phrase in NOTHING_FOUND)
+
+
+def judged(edit, said):
+    """The fact at which an edit was refused, by what was said of it, and what is wrong with it."""
+    name = f"{edit.crate}/{edit.name}"
     if any(old == new for _, old, new in edit.changes):
         return None, f"{name}: changes nothing"
-    if not log.exists():
-        return None, f"{name}: no log: run the gate first"
-    found, unfound = facts(log.read_text())
-    if found:
-        return f"`{found[0]}`", None
-    if unfound:
-        return f"`{unfound[0]}`, {UNFIT}", None
-    return None, f"{name}: refused at no fact"
+    if (edit.crate, edit.name) not in said:
+        return None, f"{name}: not refused: run the gate first"
+    fact, is_false = fact_of(edit.crate, said[edit.crate, edit.name])
+    if not fact:
+        return None, f"{name}: refused at no fact"
+    return (f"`{fact}`", None) if is_false else (f"`{fact}`, {UNFIT}", None)
