@@ -76,7 +76,8 @@ $(ARCHIVE): $(PROVED) | setup
 
 target/bin/%: crates.txt $(call SOURCES_OF,crates)
 	@mkdir -p $(BUILD) $(@D)
-	cd crates/$* && $(RT) run <stdin >../../$(BUILD)/$*.log 2>&1 || { cat ../../$(BUILD)/$*.log; exit 1; }
+	cd crates/$* && $(RT) run <stdin >../../$(BUILD)/$*.log 2>&1 || \
+	    { cat ../../$(BUILD)/$*.log; exit 1; }
 	cp crates/$*/out/$* $@
 
 # The archive's code and nothing else. No name is seen that does not begin as the header's do; no

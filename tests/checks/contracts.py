@@ -7,8 +7,8 @@
 The words are the comments above functions and definitions, a truth is the first line of its edit,
 and the text that no script can write stands in contracts.md beside this one: the introduction, and
 what is said of a crate. The fact at which an edit was refused is taken from the gate's log of it.
-Without a log it is the fact that the page has now: --check needs no gate, and reads a log only where
-one is named; --write reads build/gate.log where none is.
+Without a log it is the fact that the page has now: --check needs no gate, and reads a log only
+where one is named; --write reads build/gate.log where none is.
 
 --check fails, and says what differs, if the page is not what would be written; both fail if an edit
 has no fact, and if the introduction names something that is not there.

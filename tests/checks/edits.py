@@ -15,7 +15,7 @@ ERROR = re.compile(r"^(\S+?):\d+:\d+: error: (?:`([^`]+)`: )?(.*)$")
 OPEN = re.compile(r"^note: (\S+?\.rt):(\d+):\d+: .*?\(`([\w-]+)`\)")
 FUNCTION = re.compile(r"\bfn (\w+)")
 # What is said where a proof does not fit, or where only what it cites was refused: no fact.
-UNFIT = "where a rewrite finds nothing"
+UNFIT = "no rewrite fits"
 NOTHING_FOUND = ("no equation of the list has an instance", "no occurrence of the path's")
 NO_FACT = (
     "binders, but its type",

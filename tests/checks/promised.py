@@ -1,9 +1,10 @@
 #!/usr/bin/env -S python3 -B
 """Every public function that answers is promised: its contract stands in Public.antt.
 
-That is crates/promises/specs/Public.antt. A function that answers nothing, and is lent nothing to
-write, has nothing to promise: it only prints. An export for C is promised what the function of its
-name in `buttresk` is: its parameters, result and clauses stand there word for word.
+That is crates/promises/specs/Public.antt. A function that answers nothing but that a read or a
+write failed, and is lent nothing to write, has nothing to promise: it only prints. An export for C
+is promised what the function of its name in `buttresk` is: its parameters, result and clauses stand
+there word for word.
 """
 
 import re
@@ -24,7 +25,8 @@ def public_functions(source):
     for found in FUNCTION.finditer(source):
         body = source.index("{\n", source.index(")", found.end()))
         signature = source[found.end():body]
-        if "ensures" not in signature and "->" not in signature and "&mut" not in signature:
+        answers = "->" in signature.replace("-> io::Result<()>", "")
+        if "ensures" not in signature and not answers and "&mut" not in signature:
             continue
         types = [t for t in TYPE.finditer(source) if t.start() < found.start()]
         yield f"{types[-1][1]}.{found[2]}" if found[1] else found[2], signature
