@@ -11,37 +11,11 @@ use borrow.Author.Tests.{leb-true, leb-false}
 use Rattle.octets.specs.Words.{Not}
 use Rattle.octets.specs.BigEndian.{be_at}
 use Rattle.octets.proofs.Laws.{be_same}
-use Rattle.framing.specs.LaidOut.{Spells, HasGrib, FirstGrib, stated_length, stated_number}
+use Rattle.framing.specs.LaidOut.{Spells, FirstGrib}
 use Rattle.framing.specs.declared.read.Section.{Section}
 use Rattle.index.specs.declared.bounds.Room.{Room}
-use Rattle.walk_laws.specs.Rows.{Rows, FirstRow}
-use Rattle.walk_laws.specs.ExactlyWhen.{
-  left,
-  EndCut,
-  HeaderCut,
-  LengthUnder5,
-  NumberNot1To7,
-  stated_end,
-  PayloadCut,
-  IndicatorCut,
-  InHand,
-  hand0,
-  hand8,
-  behind_header,
-  CannotBeRead,
-  WellRead,
-  rows_after_read,
-  Stand,
-  Comes,
-  started,
-  goes_further,
-  NotTooLong,
-  Given,
-  too_long,
-  unread,
-  input_over,
-  misjudged,
-}
+use Rattle.walk_laws.specs.Rows.{FirstRow}
+use Rattle.walk_laws.specs.ExactlyWhen.{left, EndCut, HeaderCut, LengthUnder5, NumberNot1To7, stated_end, PayloadCut, IndicatorCut, hand0, hand8, behind_header, CannotBeRead, WellRead, rows_after_read, Stand, Comes, started, goes_further, Given, too_long, unread, input_over, misjudged}
 use Rattle.walk_laws.specs.Missing.{Lacks, OneIsMissing, EachOctetCounts, HowMuchIsMissing}
 use Rattle.walk_laws.proofs.WholeWalk.{walk_refused_exactly_when}
 

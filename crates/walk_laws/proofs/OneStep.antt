@@ -12,12 +12,10 @@ use Rattle.octets.specs.Words.{pick, Not, Iff}
 use Rattle.framing.specs.LaidOut.{section_of}
 use Rattle.framing.specs.Framing.{read_at}
 use Rattle.framing.specs.Read.{Read}
-use Rattle.framing.specs.Read as read
 use Rattle.order.specs.Order.{judged, is_between, then_judged, order_from, order_of}
 use Rattle.order.specs.declared.Order.{Order}
 use Rattle.order.specs.declared.Order.TheVariants.{BetweenMessages}
 use Rattle.order.specs.declared.Judged.{Judged}
-use Rattle.order.specs.declared.Judged.TheVariants as says
 use Rattle.order.specs.declared.Verdict.{Verdict}
 use Rattle.order.specs.declared.Verdict.TheVariants as verdict
 use Rattle.order.proofs.Laws.{Said, said, not_between}
