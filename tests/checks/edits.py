@@ -57,7 +57,9 @@ def all_edits():
 
 
 def refusals(log):
-    """What the gate said of each edit that it refused, by crate and name."""
+    """What the gate said of each edit that it refused, by crate and name; none without a log."""
+    if not log.exists():
+        return {}
     return {(crate, name): said for crate, name, said in REFUSED.findall(log.read_text())}
 
 
