@@ -32,5 +32,5 @@ unfolding by_outcome
 returns-in-Clean c =
     let args = c.args in
     let ends = sym c.outcome_of-outcome.ensures ∙ c.in-Clean.is in
-    let e = by_walk args.file.now args.dest.now c.if-file-gt-MOST_OCTETS.false c.if-dest-file.false ends in
-    record { answer = rw e; dest = rw e c.put_copy.ensures }
+    let whole = by_walk args.file.now args.dest.now c.if-file-gt-MOST_OCTETS.false c.if-dest-file.false ends in
+    record { answer = rw whole; dest = rw whole c.put_copy.ensures }
