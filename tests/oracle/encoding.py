@@ -27,11 +27,11 @@ HEAD = """\
 -- Written by tests/oracle/encoding.py from the crate's own answers to {count} nested messages: \
 the transcription of its writer gives the same.
 use Prim.Native.Nat.{{ℕ}}
-use mathlib.Core.Path.{{_≡_, refl}}
-use mathlib.Core.List.{{List, [], _∷_, map}}
+use mathlib.Core.Path.{{◌≡◌, refl}}
+use mathlib.Core.List.{{List, [], ◌∷◌, map}}
 use mathlib.Core.Option.{{Option, none, some}}
 use lib.ListN.{{replicate}}
-use Rattle·as_the_encoder·specs.specs.Encoder.{{
+use Rattle.as_the_encoder.specs.Encoder.{{
   Usize,
   size,
   WriteResult,
@@ -39,28 +39,28 @@ use Rattle·as_the_encoder·specs.specs.Encoder.{{
   TooSmall,
   Overflows,
   OutOfRange,
-  write-to-buffer,
-  SectionHeader·write-to-buffer,
-  Section0·write-to-buffer,
-  write-section0,
-  write-section8,
-  write-section-header,
-  section-len,
-  write-section,
-  data-sections-len,
-  write-data-sections,
+  write_to_buffer,
+  SectionHeader-write_to_buffer,
+  Section0-write_to_buffer,
+  write_section0,
+  write_section8,
+  write_section_header,
+  section_len,
+  write_section,
+  data_sections_len,
+  write_data_sections,
   IterL3,
-  IterL3·num-octets,
-  IterL3·write,
+  IterL3-num_octets,
+  IterL3-write,
   IterL2,
-  IterL2·num-octets,
-  IterL2·write,
+  IterL2-num_octets,
+  IterL2-write,
   IterL1,
-  IterL1·num-octets,
-  IterL1·write,
+  IterL1-num_octets,
+  IterL1-write,
   Grib2Message,
-  Grib2Message·num-octets,
-  Grib2Message·write,
+  Grib2Message-num_octets,
+  Grib2Message-write,
   reference,
 }}
 
@@ -71,17 +71,17 @@ record Asked : Type 0 where
   room : ℕ
   total : Usize
   answer : WriteResult
-  by-reference : Option (List ℕ)
+  by_reference : Option (List ℕ)
 
 abbrev asked : Grib2Message → ℕ → ℕ → WriteResult → Option (List ℕ) → Asked
-asked message room total answer by-reference =
+asked message room total answer by_reference =
     record {{ message = message; room = room; total = size total; answer = answer; \
-by-reference = by-reference }}
+by_reference = by_reference }}
 
 -- the levels of a message
 abbrev product : List ℕ → List ℕ → List ℕ → List ℕ → IterL3
 product four five six seven =
-    record {{ section4 = four; data-sections = record {{ section5 = five; section6 = six; \
+    record {{ section4 = four; data_sections = record {{ section5 = five; section6 = six; \
 section7 = seven }} }}
 
 abbrev grid : List ℕ → List IterL3 → IterL2
@@ -96,33 +96,33 @@ message discipline reserved₁ reserved₂ one locals =
 section1 = one; iter = locals }}
 
 -- a buffer that was written
-abbrev writtenIn : WriteResult → Option (List ℕ)
-writtenIn (Ok octets buf) = some buf
-writtenIn (TooSmall buf) = none
-writtenIn Overflows = none
-writtenIn OutOfRange = none
+abbrev written_in : WriteResult → Option (List ℕ)
+written_in (Ok octets buf) = some buf
+written_in (TooSmall buf) = none
+written_in Overflows = none
+written_in OutOfRange = none
 
 -- what the transcription answers; every octet of a destination is 165 before the call
 abbrev told : Asked → Asked
 told a =
     record {{
-      message = a .message;
-      room = a .room;
-      total = Grib2Message·num-octets (a .message);
-      answer = Grib2Message·write (a .message) (replicate (a .room) 165);
-      by-reference = writtenIn (Grib2Message·write (reference (a .message)) \
-(replicate (a .room) 165));
+      message = a.message;
+      room = a.room;
+      total = Grib2Message-num_octets a.message;
+      answer = Grib2Message-write a.message (replicate a.room 165);
+      by_reference = written_in (Grib2Message-write (reference a.message) \
+(replicate a.room 165));
     }}
 """
 
 STATEMENT = """
-told-{k} : map told answers-{k} ≡ answers-{k}
-unfolding answers-{k} Grib2Message·write Grib2Message·num-octets IterL1·write \
-IterL1·num-octets IterL2·write IterL2·num-octets
-    IterL3·write IterL3·num-octets write-data-sections data-sections-len write-section \
-section-len write-section-header write-section8
-    write-section0 Section0·write-to-buffer SectionHeader·write-to-buffer write-to-buffer
-told-{k} = refl
+told_{k} : map told answers_{k} ≡ answers_{k}
+unfolding answers_{k} Grib2Message-write Grib2Message-num_octets IterL1-write \
+IterL1-num_octets IterL2-write IterL2-num_octets
+    IterL3-write IterL3-num_octets write_data_sections data_sections_len write_section \
+section_len write_section_header write_section8
+    write_section0 Section0-write_to_buffer SectionHeader-write_to_buffer write_to_buffer
+told_{k} = refl
 """
 
 
@@ -213,7 +213,7 @@ def main():
     print(HEAD.format(count=len(chosen)), end="")
     for k, start in enumerate(range(0, len(chosen), IN_ONE)):
         cases = "\n    ∷ ".join(case(*pair) for pair in chosen[start:start + IN_ONE])
-        print(f"\nanswers-{k} : List Asked\nanswers-{k} =\n    {cases}\n    ∷ []")
+        print(f"\nanswers_{k} : List Asked\nanswers_{k} =\n    {cases}\n    ∷ []")
         print(STATEMENT.format(k=k), end="")
     for (word, outcome), pairs in sorted(kinds.items()):
         print(f"{word}, by 01 {outcome}: {len(pairs)}", file=sys.stderr)

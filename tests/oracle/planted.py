@@ -7,35 +7,37 @@ Exit status 1 if one goes unreported.
 """
 
 import argparse
-import shutil
 import subprocess
 import sys
 import tempfile
 from pathlib import Path
 from typing import NamedTuple
 
+from sides import REPOSITORY, copy_crates
+
 HERE = Path(__file__).resolve().parent
-REPOSITORY = HERE.parent.parent
 
 
 class Edit(NamedTuple):
     file: str
     old: str
     new: str
+    places: int = 1         # where the old text stands, and is replaced
 
 
 # What is wrong, in which answers it must show, and the edits.
 FAULTS = {
     # The files that show it are judged by 01 alone: the crate overflows there.
     "number_of_9": ("refusal 9 is told as 8, in definition and code", "walk", [
-        Edit("index/specs/Numbers.antt", "faultNumber (fault.LongerThanRest len) = 9",
-             "faultNumber (fault.LongerThanRest len) = 8"),
+        Edit("index/specs/Numbers.antt", "fault_number (fault.LongerThanRest len) = 9",
+             "fault_number (fault.LongerThanRest len) = 8"),
         Edit("index/src/numbers.rt",
              "Fault::LongerThanRest(_) => 9,", "Fault::LongerThanRest(_) => 8,"),
     ]),
     # The crate tells no count of missing octets: 02's is judged by reference.py alone.
     "count_of_8": ("of a cut 8 an octet too many is missing, in definition and code", "walk", [
-        Edit("framing/specs/Framing.antt", "(Cut (endSize - left))", "(Cut (headerSize - left))"),
+        Edit("framing/specs/Framing.antt",
+             "(Cut (end_size - left))", "(Cut (header_size - left))"),
         Edit("framing/src/read.rt", "Fault::Cut((EndSection::WHOLE_SIZE - left) as u32)",
              "Fault::Cut((HEADER_SIZE - left) as u32)"),
     ]),
@@ -66,39 +68,42 @@ FAULTS = {
              "reserved₁ ∷ reserved₂ ∷ discipline", "reserved₂ ∷ reserved₁ ∷ discipline"),
         Edit("writer/src/put.rt",
              "4, reserved_1, reserved_2, discipline", "4, reserved_2, reserved_1, discipline"),
-        Edit("writer/proofs/put/put_indicator/Proof.antt",
-             "reserved₁ ∷ reserved₂ ∷ discipline", "reserved₂ ∷ reserved₁ ∷ discipline"),
+        Edit("writer/proofs/put/put_indicator/Answers.antt",
+             "reserved₁ ∷ reserved₂ ∷ discipline", "reserved₂ ∷ reserved₁ ∷ discipline", 2),
     ]),
     # The client's eleven hours.
     "open_as_0": ("a message that goes on is told by 0; what prints has no contract", "walk", [
-        Edit("replaying/src/walk_lines.rt", "text(b\" open\"),", "text(b\" 0\"),"),
+        Edit("replaying/src/walk_lines.rt",
+             "text(out, b\" open\"),", "text(out, b\" 0\"),"),
     ]),
     "minus_sign": ("-99 to -1 lose their sign; what prints has no contract", "signed", [
-        Edit("replaying/src/printing.rt", "    if number < 0 {\n        text(b\" -\");",
-             "    if number < -99 {\n        text(b\" -\");"),
+        Edit("replaying/src/printing.rt", "    if number < 0 {\n        text(out, b\" -\")?;",
+             "    if number < -99 {\n        text(out, b\" -\")?;"),
     ]),
 }
 
 
+def planted(edit, crates):
+    """The text of a file with the edit in it."""
+    text = (crates / edit.file).read_text()
+    assert text.count(edit.old) == edit.places, f"{edit.file} has no place for the fault"
+    return text.replace(edit.old, edit.new)
+
+
 def plant(folder, edits):
-    """A copy of the repository's crates with the edits. What is proved is not proved again."""
-    shutil.copy(REPOSITORY / "crates.txt", folder)
-    for part in ("crates", "target"):
-        if (REPOSITORY / part).exists():
-            shutil.copytree(REPOSITORY / part, folder / part)
+    """A copy of the repository's crates with the edits."""
+    copy_crates(folder)
     for edit in edits:
-        path = folder / "crates" / edit.file
-        text = path.read_text()
-        assert edit.old in text, f"{edit.file} has no place for the fault"
-        path.write_text(text.replace(edit.old, edit.new))
+        (folder / "crates" / edit.file).write_text(planted(edit, folder / "crates"))
 
 
 def built(folder):
     """The program, once it is proved. That it fails its own stored list is no matter here."""
-    program = folder / "target" / "bin" / "replay"
-    program.unlink(missing_ok=True)
-    done = subprocess.run(["rt", "check", "replay"], cwd=folder, capture_output=True, text=True)
-    assert program.exists(), done.stdout + done.stderr
+    crate = folder / "crates" / "replay"
+    with (crate / "stdin").open("rb") as asked:
+        done = subprocess.run(["rt", "run"], cwd=crate, stdin=asked, capture_output=True)
+    program = crate / "out" / "replay"
+    assert program.exists(), (done.stdout + done.stderr).decode(errors="replace")
     return program
 
 
@@ -110,15 +115,24 @@ def compared(program, given):
 
 def main():
     options = argparse.ArgumentParser(description=__doc__.splitlines()[0])
-    options.add_argument("--oracle", type=Path, required=True, help="the folder that `build` made")
-    options.add_argument("--eccodes", type=Path, required=True,
-                         help="the folder below which eccodes' samples are")
+    options.add_argument("--fits", action="store_true",
+                         help="only look whether each edit still has its places")
+    options.add_argument("--oracle", type=Path, help="the folder that `build` made")
+    options.add_argument("--eccodes", type=Path, help="the folder below which eccodes' samples are")
     options.add_argument("--every", type=int, default=20, metavar="N",
                          help="compare every N-th file")
     options.add_argument("--kinds", default="WPFSOTMI")
     # argparse holds the empty list to the choices, too.
     options.add_argument("fault", nargs="*", choices=[*FAULTS, []], help="all, if none is named")
     given = options.parse_args()
+    every = [edit for _, _, edits in FAULTS.values() for edit in edits]
+    for edit in every:
+        planted(edit, REPOSITORY / "crates")
+    print(f"{len(FAULTS)} faults, {len(every)} edits, each has its places")
+    if given.fits:
+        return
+    if not (given.oracle and given.eccodes):
+        options.error("--oracle and --eccodes are wanted")
     unreported = 0
     for name in given.fault or FAULTS:
         what, where, edits = FAULTS[name]

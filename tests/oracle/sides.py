@@ -1,12 +1,14 @@
 """The two sides: the oracle, which is the crate's code, and `replay`, which is ours. Each is asked
 in batches."""
 
+import shutil
 import subprocess
 import sys
 from pathlib import Path
 from typing import NamedTuple
 
-RUN = Path(__file__).resolve().parent.parent / "run.sh"
+REPOSITORY = Path(__file__).resolve().parent.parent.parent
+RUN = REPOSITORY / "tests" / "run.sh"
 
 # --- Requests, as docs/REPLAY.md writes them -----------------------------------------------------
 
@@ -47,6 +49,15 @@ def run(program, octets):
     if done.returncode:
         sys.exit(f"{program}: status {done.returncode}\n{done.stderr.decode(errors='replace')}")
     return done.stdout.decode()
+
+
+def copy_crates(folder):
+    """A copy of the repository's crates, for rt a repository of its own. What is proved is not
+    proved again: rt begins with what its checks kept elsewhere on the machine."""
+    shutil.copy(REPOSITORY / "crates.txt", folder)
+    shutil.copytree(REPOSITORY / "crates", folder / "crates",
+                    ignore=shutil.ignore_patterns("out"))
+    subprocess.run(["git", "init", "-q", folder], check=True)
 
 
 # --- Ours ----------------------------------------------------------------------------------------

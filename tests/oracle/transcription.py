@@ -12,12 +12,11 @@ before an overflow is among them. Nothing comes from this library.
     --wrong WHICH   one number of one answer is changed: the prover has to refuse it
 
 Files about the edges of the crate's blocks of 4096 octets are too long to compute: `compare` and
-the law `search-is` have them.
+the law `search_is` have them.
 """
 
 import argparse
 import random
-import shutil
 import subprocess
 import sys
 import tempfile
@@ -25,11 +24,10 @@ import time
 from pathlib import Path
 
 HERE = Path(__file__).resolve().parent
-REPOSITORY = HERE.parent.parent
 sys.path.insert(0, str(HERE.parent / "lists"))
 
 import files
-from sides import Oracle, Told
+from sides import Oracle, Told, copy_crates
 from verdict import MISPLACED, UNREAD
 from walk_files import A, by_hand, least, message, section
 
@@ -52,21 +50,21 @@ HEAD = """\
 -- Written by tests/oracle/transcription.py: the answers of the crate grib 0.20.2 itself to {count}
 -- files, which are those of its transcription.
 use Prim.Native.Nat.{{ℕ}}
-use mathlib.Core.Path.{{_≡_, refl}}
-use mathlib.Core.List.{{List, [], _∷_, _++_, map}}
+use mathlib.Core.Path.{{◌≡◌, refl}}
+use mathlib.Core.List.{{List, [], ◌∷◌, ◌++◌, map}}
 use lib.ListN.{{replicate}}
-use Rattle·octets.specs.BigEndian.{{beAt}}
-use Rattle·framing.specs.Search.{{says}}
-use Rattle·as_the_crate·specs.specs.Std.{{ReadError, GRIBVersionMismatch, UnknownSectionNumber}}
-use Rattle·as_the_crate·specs.specs.Std.{{EndSectionMismatch, SectionSizeTooSmall}}
-use Rattle·as_the_crate·specs.specs.Std.{{UnexpectedEndOfData, InvalidSectionOrder}}
-use Rattle·as_the_crate·specs.specs.Std.{{NoGridDefinition}}
-use Rattle·as_the_crate·specs.specs.Std.{{Dropped, Option, some, nothing, SectionInfo, info}}
-use Rattle·as_the_crate·specs.specs.Std.{{Cursor·read, Cursor·read-exact, Cursor·seek}}
-use Rattle·as_the_crate·specs.specs.Reader as Reader
-use Rattle·as_the_crate·specs.specs.Parser as Parser
-use Rattle·as_the_crate·specs.specs.Parser.{{Submessage, Collected, Finish, clean, fails, overflow}}
-use Rattle·as_the_crate·specs.specs.Told.{{theRust, thePublicRust, streamed}}
+use Rattle.octets.specs.BigEndian.{{be_at}}
+use Rattle.framing.specs.Search.{{says}}
+use Rattle.as_the_crate.specs.Std.{{ReadError, GRIBVersionMismatch, UnknownSectionNumber}}
+use Rattle.as_the_crate.specs.Std.{{EndSectionMismatch, SectionSizeTooSmall}}
+use Rattle.as_the_crate.specs.Std.{{UnexpectedEndOfData, InvalidSectionOrder}}
+use Rattle.as_the_crate.specs.Std.{{NoGridDefinition}}
+use Rattle.as_the_crate.specs.Std.{{Dropped, Option, some, nothing, SectionInfo, info}}
+use Rattle.as_the_crate.specs.Std.{{Cursor-read, Cursor-read_exact, Cursor-seek}}
+use Rattle.as_the_crate.specs.Reader as Reader
+use Rattle.as_the_crate.specs.Parser as Parser
+use Rattle.as_the_crate.specs.Parser.{{Submessage, Collected, Finish, clean, fails, overflow}}
+use Rattle.as_the_crate.specs.Told.{{the_rust, the_public_rust, streamed}}
 
 -- message, submessage, nine places
 abbrev line : ℕ → ℕ → ℕ → ℕ → Option ℕ → ℕ → ℕ → ℕ → ℕ → ℕ → ℕ → Submessage ℕ
@@ -104,35 +102,36 @@ asked file sections submessages offsets end =
       offsets = offsets;
     }}
 
-abbrev offsetIn : Option SectionInfo → Option ℕ
-offsetIn (some s) = some (s .offset)
-offsetIn nothing = nothing
+abbrev offset_in : Option SectionInfo → Option ℕ
+offset_in (some s) = some s.offset
+offset_in nothing = nothing
 
-abbrev offsetsIn : Submessage SectionInfo → Submessage ℕ
-offsetsIn s =
-    line (s .message) (s .submessage) (s .sect0 .offset) (s .sect1 .offset) (offsetIn (s .sect2))
-    (s .sect3 .offset) (s .sect4 .offset) (s .sect5 .offset) (s .sect6 .offset) (s .sect7 .offset)
-    (s .sect8 .offset)
+abbrev offsets_in : Submessage SectionInfo → Submessage ℕ
+offsets_in s =
+    line s.message s.submessage s.sect0.offset s.sect1.offset (offset_in s.sect2)
+    s.sect3.offset s.sect4.offset s.sect5.offset s.sect6.offset s.sect7.offset
+    s.sect8.offset
 
 -- what the transcription answers
 abbrev told : List ℕ → Asked
 told file =
     record {{
       file = file;
-      answer = theRust file;
-      offsets = map (λ (s : Submessage SectionInfo). offsetsIn s) (thePublicRust file .submessages);
+      answer = the_rust file;
+      offsets = map (λ (s : Submessage SectionInfo). offsets_in s) \
+(the_public_rust file).submessages;
     }}
 """
 
 UNFOLDING = """\
-unfolding {name} streamed Parser.collected Parser.next-in Parser.match-num
-    Parser.ensure-next-is-sect0 Parser.ensure-next-is-sect-2-or-3-or-4 Parser.ensure-next-is-sect8
-    Parser.ensure-next-is-sect-num Reader.Grib2SectionStream·next Reader.next-sect Reader.next-sect8
-    Reader.next-sect0 Reader.read-sect-payload Reader.read-body Reader.skip-sect7-payload
-    Reader.read-sect6-payload Reader.read-slice-without-offset-check Reader.read-sect-header
-    Reader.read-sect8 Reader.read-sect0 Reader.read-sect0-loop Reader.in-block Reader.magic-among
-    Reader.from-payload Reader.Indicator·from-slice Cursor·seek Cursor·read-exact Cursor·read says
-    beAt
+unfolding {name} streamed Parser.collected Parser.next_in Parser.match_num
+    Parser.ensure_next_is_sect0 Parser.ensure_next_is_sect_2_or_3_or_4 Parser.ensure_next_is_sect8
+    Parser.ensure_next_is_sect_num Reader.Grib2SectionStream-next Reader.next_sect Reader.next_sect8
+    Reader.next_sect0 Reader.read_sect_payload Reader.read_body Reader.skip_sect7_payload
+    Reader.read_sect6_payload Reader.read_slice_without_offset_check Reader.read_sect_header
+    Reader.read_sect8 Reader.read_sect0 Reader.read_sect0_loop Reader.in_block Reader.magic_among
+    Reader.from_payload Reader.Indicator-from_slice Cursor-seek Cursor-read_exact Cursor-read says
+    be_at
 """
 
 
@@ -189,11 +188,11 @@ def statements(cases):
     yield HEAD.format(count=len(cases))
     for start in range(0, len(cases), TOGETHER):
         number = start // TOGETHER
-        name = f"answers-{number}"
+        name = f"answers_{number}"
         part = "\n    ∷ ".join(case(*pair) for pair in cases[start:start + TOGETHER])
         yield f"\n{name} : List Asked\n{name} =\n    {part}\n    ∷ []\n"
-        yield f"\ntold-{number} : map (λ (a : Asked). told (a .file)) {name} ≡ {name}\n"
-        yield UNFOLDING.format(name=name) + f"told-{number} = refl\n"
+        yield f"\ntold_{number} : map (λ (a : Asked). told a.file) {name} ≡ {name}\n"
+        yield UNFOLDING.format(name=name) + f"told_{number} = refl\n"
 
 
 # --- Files ---------------------------------------------------------------------------------------
@@ -270,15 +269,11 @@ def change_one(rng, cases, which):
 def decided(text):
     """What the prover says of the statements, in a copy where all else is proved already."""
     with tempfile.TemporaryDirectory() as folder:
-        shutil.copy(REPOSITORY / "crates.txt", folder)
-        for part in ("crates", "target"):
-            if (REPOSITORY / part).exists():
-                shutil.copytree(REPOSITORY / part, Path(folder) / part)
-        proofs = Path(folder) / "crates" / "as_the_crate" / "proofs"
-        (proofs / "Answers.antt").write_text(text)
+        copy_crates(Path(folder))
+        crate = Path(folder) / "crates" / "as_the_crate"
+        (crate / "proofs" / "Answers.antt").write_text(text)
         began = time.monotonic()
-        done = subprocess.run(["rt", "check", "as_the_crate"], cwd=folder, capture_output=True,
-                              text=True)
+        done = subprocess.run(["rt", "check"], cwd=crate, capture_output=True, text=True)
     return done, time.monotonic() - began
 
 
