@@ -19,6 +19,8 @@ PREFIX = /usr/local
 BUILD = build
 CFLAGS = -O2 -g
 RT = rt
+# Any processor of x86-64 runs what is built: rt's default asks for more than the oldest have.
+CPU = --cpu x86-64
 
 ifneq ($(shell uname -m),x86_64)
 ifeq ($(origin CC),default)
@@ -66,9 +68,9 @@ setup:
 # Proofs say a great deal: here only which crate is proved, and all of it if one is not.
 $(ARCHIVE): $(PROVED) | setup
 	@mkdir -p $(BUILD) $(@D)
-	@echo '$(RT) lib in crates/buttresk_c (some minutes the first time;' \
+	@echo '$(RT) lib $(CPU) in crates/buttresk_c (some minutes the first time;' \
 	    'all that it says is in $(BUILD)/proof.log)'
-	@{ (cd crates/buttresk_c && $(RT) lib); echo $$? >$(BUILD)/proof.status; } 2>&1 | \
+	@{ (cd crates/buttresk_c && $(RT) lib $(CPU)); echo $$? >$(BUILD)/proof.status; } 2>&1 | \
 	    tee $(BUILD)/proof.log | grep '^rt:'; \
 	read -r status <$(BUILD)/proof.status; \
 	[ "$$status" = 0 ] || { cat $(BUILD)/proof.log; exit "$$status"; }
@@ -76,7 +78,7 @@ $(ARCHIVE): $(PROVED) | setup
 
 target/bin/%: crates.txt $(call SOURCES_OF,crates)
 	@mkdir -p $(BUILD) $(@D)
-	cd crates/$* && $(RT) run <stdin >../../$(BUILD)/$*.log 2>&1 || \
+	cd crates/$* && $(RT) run $(CPU) <stdin >../../$(BUILD)/$*.log 2>&1 || \
 	    { cat ../../$(BUILD)/$*.log; exit 1; }
 	cp crates/$*/out/$* $@
 
