@@ -3,13 +3,13 @@
  * processor that it runs on.
  *
  *     cc -shared -fPIC -O2 -o count.so count.c
- *     qemu-x86_64 -cpu qemu64 -plugin ./count.so,out=FILE[,until=write] PROGRAM WORDS
+ *     qemu-x86_64 -cpu qemu64 -plugin ./count.so,out=FILE[,until=NAME] PROGRAM WORDS
  *
  * FILE then has `instructions N`, `steps N`, and a line `in N FUNCTION` for each function that has
  * a symbol. A repeated string instruction (rep movsb and its like) is one instruction, as a
  * processor counts it; the emulator goes through it octet by octet, and `steps` has what that adds.
- * The counts are the same in every run. With `until=write` they are those up to the program's first
- * `write`, and that call with them; if it makes none, of all.
+ * The counts are the same in every run. With `until=NAME` they are those up to the first call of a
+ * function whose name begins so; if there is none, of all.
  */
 #include <stdint.h>
 #include <stdio.h>
@@ -25,12 +25,9 @@ enum { VERSION = 1, NO_REGISTERS = 0, ADD = 0 };
 typedef void (*translated_fn)(qemu_plugin_id_t, struct qemu_plugin_tb *);
 typedef void (*executed_fn)(unsigned, void *);
 typedef void (*exit_fn)(qemu_plugin_id_t, void *);
-typedef void (*called_fn)(qemu_plugin_id_t, unsigned, int64_t, uint64_t, uint64_t, uint64_t,
-                          uint64_t, uint64_t, uint64_t, uint64_t, uint64_t);
 void qemu_plugin_register_vcpu_tb_trans_cb(qemu_plugin_id_t, translated_fn);
 void qemu_plugin_register_vcpu_insn_exec_inline(struct qemu_plugin_insn *, int, void *, uint64_t);
 void qemu_plugin_register_vcpu_insn_exec_cb(struct qemu_plugin_insn *, executed_fn, int, void *);
-void qemu_plugin_register_vcpu_syscall_cb(qemu_plugin_id_t, called_fn);
 void qemu_plugin_register_atexit_cb(qemu_plugin_id_t, exit_fn, void *);
 size_t qemu_plugin_tb_n_insns(const struct qemu_plugin_tb *);
 struct qemu_plugin_insn *qemu_plugin_tb_get_insn(const struct qemu_plugin_tb *, size_t);
@@ -43,8 +40,7 @@ extern int qemu_plugin_version;
 int qemu_plugin_version = VERSION;
 int qemu_plugin_install(qemu_plugin_id_t, const void *, int, char **);
 
-/* WRITE is the number of the system's call `write` on x86-64. */
-enum { MOST_FUNCTIONS = 4096, WRITE = 1 };
+enum { MOST_FUNCTIONS = 4096 };
 
 struct function {
     const char *name;
@@ -55,7 +51,8 @@ struct function {
 static struct function functions[MOST_FUNCTIONS] = {{.name = "?"}};
 static size_t known = 1;
 static uint64_t steps;
-static const char *out_path;
+static const char *out_path, *until;
+static int told;
 
 static struct function *function_of(const struct qemu_plugin_insn *insn)
 {
@@ -108,23 +105,6 @@ static void repeated(unsigned cpu, void *of)
     at = ++function->count;
 }
 
-/* Each instruction by itself: the size that qemu 7.2 tells of a block is one too many where its
- * last instruction lies across two pages. */
-static void translated(qemu_plugin_id_t id, struct qemu_plugin_tb *block)
-{
-    size_t size = qemu_plugin_tb_n_insns(block);
-    struct function *function = function_of(qemu_plugin_tb_get_insn(block, 0));
-    (void)id;
-    for (size_t i = 0; i < size; i++) {
-        struct qemu_plugin_insn *insn = qemu_plugin_tb_get_insn(block, i);
-        if (is_repeated(insn)) {
-            qemu_plugin_register_vcpu_insn_exec_cb(insn, repeated, NO_REGISTERS, function);
-        } else {
-            qemu_plugin_register_vcpu_insn_exec_inline(insn, ADD, &function->count, 1);
-        }
-    }
-}
-
 static void tell(void)
 {
     FILE *out = fopen(out_path, "w");
@@ -146,7 +126,36 @@ static void tell(void)
     fclose(out);
 }
 
-static int told;
+static void reached(unsigned cpu, void *unused)
+{
+    (void)cpu;
+    (void)unused;
+    if (!told) {
+        told = 1;
+        tell();
+    }
+}
+
+/* Each instruction by itself: the size that qemu 7.2 tells of a block is one too many where its
+ * last instruction lies across two pages. */
+static void translated(qemu_plugin_id_t id, struct qemu_plugin_tb *block)
+{
+    size_t size = qemu_plugin_tb_n_insns(block);
+    struct function *function = function_of(qemu_plugin_tb_get_insn(block, 0));
+    (void)id;
+    if (until != NULL && strncmp(function->name, until, strlen(until)) == 0) {
+        qemu_plugin_register_vcpu_insn_exec_cb(qemu_plugin_tb_get_insn(block, 0), reached,
+                                               NO_REGISTERS, NULL);
+    }
+    for (size_t i = 0; i < size; i++) {
+        struct qemu_plugin_insn *insn = qemu_plugin_tb_get_insn(block, i);
+        if (is_repeated(insn)) {
+            qemu_plugin_register_vcpu_insn_exec_cb(insn, repeated, NO_REGISTERS, function);
+        } else {
+            qemu_plugin_register_vcpu_insn_exec_inline(insn, ADD, &function->count, 1);
+        }
+    }
+}
 
 static void at_exit(qemu_plugin_id_t id, void *unused)
 {
@@ -157,24 +166,14 @@ static void at_exit(qemu_plugin_id_t id, void *unused)
     }
 }
 
-static void called(qemu_plugin_id_t id, unsigned cpu, int64_t number, uint64_t a, uint64_t b,
-                   uint64_t c, uint64_t d, uint64_t e, uint64_t f, uint64_t g, uint64_t h)
-{
-    (void)id, (void)cpu, (void)a, (void)b, (void)c, (void)d, (void)e, (void)f, (void)g, (void)h;
-    if (number == WRITE && !told) {
-        told = 1;
-        tell();
-    }
-}
-
 int qemu_plugin_install(qemu_plugin_id_t id, const void *info, int words, char **word)
 {
     (void)info;
     for (int i = 0; i < words; i++) {
         if (strncmp(word[i], "out=", 4) == 0) {
             out_path = strdup(word[i] + 4);
-        } else if (strcmp(word[i], "until=write") == 0) {
-            qemu_plugin_register_vcpu_syscall_cb(id, called);
+        } else if (strncmp(word[i], "until=", 6) == 0) {
+            until = strdup(word[i] + 6);
         }
     }
     if (out_path == NULL) {
