@@ -159,4 +159,4 @@ endif
 	install -D -m 644 completions/_buttresk $(call put,share/zsh/site-functions/_buttresk)
 
 clean:
-	rm -rf $(BUILD)
+	rm -rf $(BUILD) target

@@ -6,7 +6,7 @@ cd "$(dirname "$0")/../.." || exit 1
 command -v python3 >/dev/null || { echo "quick checks: python3 is missing" >&2; exit 1; }
 
 for check in trace.py promised.py reading_path.py widths.py 'contracts.py --check' \
-    'templates.py --check'; do
+    'templates.py --check' '../oracle/planted.py --fits'; do
     # shellcheck disable=SC2086 # a check and its option are two words
     said=$(python3 -B tests/checks/$check 2>&1) || {
         status=$?
