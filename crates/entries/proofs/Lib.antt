@@ -5,3 +5,4 @@ pub mod Said
 pub mod Laws
 mod Put
 mod InTurn
+pub mod Linked

@@ -8,3 +8,4 @@ pub mod Fitting
 pub mod InForce
 pub mod Pins
 pub mod OneLine
+pub mod Linked

@@ -6,3 +6,4 @@ mod Turns
 mod Answers
 pub mod EachEntry
 pub mod Said
+pub mod Linked

@@ -7,3 +7,4 @@ mod InForm
 mod Lines
 pub mod Laws
 mod Turns
+pub mod Linked

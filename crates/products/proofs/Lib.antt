@@ -10,3 +10,4 @@ pub mod Readings
 pub mod OneCall
 pub mod Indices
 pub mod Within
+pub mod Linked

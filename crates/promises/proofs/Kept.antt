@@ -37,6 +37,7 @@ use Rattle.blindness.proofs.Spared.{licensed_are_four, terms_pass, one_more_fail
 use Rattle.promises.specs.Promises.{Demand1, Demand2, Demand3}
 use Rattle.promises.specs.AllTerms.{ForAllTerms}
 use Rattle.promises.proofs.Answers.{each_gives_its_definition}
+use Rattle.promises.proofs.There.{code_is_there}
 use Rattle.promises.proofs.Leaves.{walk_stores, numbers_store, copy_leaves, write_leaves}
 use Rattle.promises.proofs.Listing.{inventory_leaves, list_stores}
 use Rattle.promises.proofs.Pulling.{pull_hands_out}
@@ -59,6 +60,7 @@ pub demand_1 : Demand1
 demand_1 =
     record {
       each_gives = each_gives_its_definition;
+      code_is_there = code_is_there;
       walk_stores = walk_stores;
       numbers_store = numbers_store;
       list_stores = list_stores;

@@ -23,7 +23,7 @@ use Rattle.as_the_crate.specs.Overflow.{OverflowsExactlyWhen}
 use Rattle.as_the_encoder.specs.Writes.{WritesAsTheRust, EveryAcceptedPlanIsNested}
 use Rattle.blindness.specs.Agree.{Alike}
 use Rattle.blindness.specs.Blindness.{One, Public}
-use Rattle.promises.specs.Public.{EachGivesItsDefinition}
+use Rattle.promises.specs.Public.{EachGivesItsDefinition, CodeIsThere}
 use Rattle.promises.specs.Lent as lent
 use Rattle.promises.specs.Handed.{PullHandsOut}
 use Rattle.promises.specs.CopyGiven.{CopyRefusedExactlyWhen, CopyWrittenExactlyWhen}
@@ -38,6 +38,7 @@ pub record Demand1 : Type 2 where
   -- every public function asks for nothing, can be called with any contents, ends, and gives the
   -- definition that is written beside its name: of contents alone, wherever they lie
   pub each_gives : EachGivesItsDefinition
+  pub code_is_there : CodeIsThere  -- the code of all of them, in one environment
   pub walk_stores : lent.WalkStores  -- what is told before the end is stored, all else is left
   pub numbers_store : lent.NumbersStore
   pub list_stores : lent.ListStores

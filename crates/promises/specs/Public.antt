@@ -5,6 +5,8 @@
 -- print (docs/CONTRACTS.md lists them): they answer nothing and are lent nothing to write.
 use Rattle.std.specs.Prelude.{ℕ, List, [], ◌∷◌}
 use Rattle.std.specs.Borrow.{Array, u8, u16, u32, u64, usize}
+use prog.Routine.{Env}
+use prog.Wired.{Wired}
 use Rattle.octets.specs.contracts as octets
 use Rattle.octets.proofs as octets_code
 use Rattle.sections.specs.contracts as sections
@@ -385,3 +387,78 @@ pub record PublicFunctions (M : Type 1) : Type 2 where
 -- in memory of every kind
 abbrev pub EachGivesItsDefinition : Type 2
 EachGivesItsDefinition = (M : Type 1) → PublicFunctions M
+
+-- an environment has the code of each: what it is promised, it is promised there ..
+pub record HasTheCode (γ : Env) : Type 0 where
+  pub octets_be16 : Wired γ octets_code.be16.Symbol.code
+  pub octets_be32 : Wired γ octets_code.be32.Symbol.code
+  pub octets_be64 : Wired γ octets_code.be64.Symbol.code
+  pub octets_sign_and_size : Wired γ octets_code.sign_and_size.Symbol.code
+  pub sections_least_payload_of : Wired γ sections_code.least_payload_of.Symbol.code
+  pub sections_values_of : Wired γ sections_code.values_of.Symbol.code
+  pub Indicator-from_section : Wired γ IndicatorCode.from_section.Symbol.code
+  pub Identification-from_payload : Wired γ IdentificationCode.from_payload.Symbol.code
+  pub GridDefinition-from_payload : Wired γ GridDefinitionCode.from_payload.Symbol.code
+  pub ProdDefinition-from_payload : Wired γ ProdDefinitionCode.from_payload.Symbol.code
+  pub ReprDefinition-from_payload : Wired γ ReprDefinitionCode.from_payload.Symbol.code
+  pub BitMap-from_payload : Wired γ BitMapCode.from_payload.Symbol.code
+  pub products_offsets_at : Wired γ products_code.offsets_at.Symbol.code
+  pub products_offsets_by : Wired γ products_code.offsets_by.Symbol.code
+  pub products_when_and_where : Wired γ products_code.when_and_where.Symbol.code
+  pub products_product_of : Wired γ products_code.product_of.Symbol.code
+  pub products_product_by : Wired γ products_code.product_by.Symbol.code
+  pub framing_framed_at : Wired γ framing_code.framed_at.Symbol.code
+  pub framing_next_start : Wired γ framing_code.next_start.Symbol.code
+  pub order_judge : Wired γ order_code.judge.Symbol.code
+  pub order_judge_read : Wired γ order_code.judge_read.Symbol.code
+  pub order_completing : Wired γ order_code.completing.Symbol.code
+  pub order_between_messages : Wired γ order_code.between_messages.Symbol.code
+  pub order_judge_all : Wired γ order_code.judge_all.Symbol.code
+  pub index_opened : Wired γ index_code.opened.Symbol.code
+  pub index_in_force : Wired γ index_code.in_force.Symbol.code
+  pub index_with_span : Wired γ index_code.with_span.Symbol.code
+  pub index_with_submessage : Wired γ index_code.with_submessage.Symbol.code
+  pub index_line_of : Wired γ index_code.line_of.Symbol.code
+  pub index_unlisted : Wired γ index_code.unlisted.Symbol.code
+  pub index_end_of : Wired γ index_code.end_of.Symbol.code
+  pub index_stored : Wired γ index_code.stored.Symbol.code
+  pub index_unplaced : Wired γ index_code.unplaced.Symbol.code
+  pub reading_start : Wired γ reading_code.start.Symbol.code
+  pub reading_look : Wired γ reading_code.look.Symbol.code
+  pub reading_glance : Wired γ reading_code.glance.Symbol.code
+  pub standing_one_more : Wired γ standing_code.one_more.Symbol.code
+  pub standing_span_after : Wired γ standing_code.span_after.Symbol.code
+  pub standing_passed_row : Wired γ standing_code.passed_row.Symbol.code
+  pub standing_put_row : Wired γ standing_code.put_row.Symbol.code
+  pub walk_walk : Wired γ walk_code.walk.Symbol.code
+  pub walk_numbers_walk_numbers : Wired γ walk_numbers_code.walk_numbers.Symbol.code
+  pub pull_first : Wired γ pull_code.first.Symbol.code
+  pub pull_pull_at : Wired γ pull_code.pull_at.Symbol.code
+  pub pull_new : Wired γ pull_code.new.Symbol.code
+  pub pull-Reader_next : Wired γ pull_code.Reader.next.Symbol.code
+  pub publish_publish : Wired γ publish_code.publish.Symbol.code
+  pub publish_copy_end : Wired γ publish_code.copy_end.Symbol.code
+  pub writer_write : Wired γ writer_code.write.Symbol.code
+  pub writer_write_end : Wired γ writer_code.write_end.Symbol.code
+  pub entries_spell : Wired γ entries_code.spell.Symbol.code
+  pub inventory_inventory : Wired γ inventory_code.inventory.Symbol.code
+  pub inventory_inventory_end : Wired γ inventory_code.inventory_end.Symbol.code
+  pub lists_read_list : Wired γ lists_code.read_list.Symbol.code
+  pub lists_list_end : Wired γ lists_code.list_end.Symbol.code
+  pub requests_request_at : Wired γ requests_code.request_at.Symbol.code
+  pub buttresk_walk : Wired γ buttresk_code.buttresk_walk.Symbol.code
+  pub buttresk_publish : Wired γ buttresk_code.buttresk_publish.Symbol.code
+  pub buttresk_write : Wired γ buttresk_code.buttresk_write.Symbol.code
+  pub buttresk_inventory : Wired γ buttresk_code.buttresk_inventory.Symbol.code
+  pub buttresk_read_list : Wired γ buttresk_code.buttresk_read_list.Symbol.code
+  pub buttresk_indicator : Wired γ buttresk_code.buttresk_indicator.Symbol.code
+  pub buttresk_identification : Wired γ buttresk_code.buttresk_identification.Symbol.code
+  pub buttresk_grid_definition : Wired γ buttresk_code.buttresk_grid_definition.Symbol.code
+  pub buttresk_product_definition : Wired γ buttresk_code.buttresk_product_definition.Symbol.code
+  pub buttresk_when_and_where : Wired γ buttresk_code.buttresk_when_and_where.Symbol.code
+  pub buttresk_representation : Wired γ buttresk_code.buttresk_representation.Symbol.code
+  pub buttresk_bit_map : Wired γ buttresk_code.buttresk_bit_map.Symbol.code
+
+-- .. and there is one that has all of it
+abbrev pub CodeIsThere : Type 0
+CodeIsThere = (γ : Env) × HasTheCode γ

@@ -3,3 +3,4 @@
 pub mod Stands
 pub mod EachKind
 pub mod Places
+pub mod Linked

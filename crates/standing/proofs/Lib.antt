@@ -3,3 +3,4 @@
 pub mod Put
 pub mod Lent
 pub mod Passed
+pub mod Linked

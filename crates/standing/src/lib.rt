@@ -13,7 +13,6 @@ use index::{Listed, Span};
 use order::Place;
 use reading::Reading;
 use sections::Indicator;
-use std::num::wrapping_add_u64;
 
 // Numbers of a row: section number, offset, length.
 pub const ROW: usize = 3;
@@ -46,11 +45,17 @@ pub fn one_more(n: u64) -> u64
 }
 
 // The total length of a message of which so much is left behind its section 0. Eight octets state
-// it, so that no file brings the sum to its end.
+// it, so that no file brings the sum to its end. Beyond 2^64 it starts again at 0; it is written out,
+// and not std's sum that wraps, so that all the code that runs is this repository's.
 fn total_of(rest: u64) -> u64
     ensures { result ≡ total_of rest }
 {
-    wrapping_add_u64(rest, Indicator::WHOLE_SIZE as u64)
+    let own = Indicator::WHOLE_SIZE as u64;
+    let most = u64::MAX - own;
+    if rest <= most {
+        return rest + own;
+    }
+    rest - most - 1
 }
 
 // Where the message in hand stands, behind a section, by what is left of it: a section 0 says it.

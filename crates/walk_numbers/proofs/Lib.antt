@@ -1,2 +1,3 @@
 -- Machinery of the crate's proofs: a turn of the loop with lent numbers.
 pub mod InNumbers
+pub mod Linked
