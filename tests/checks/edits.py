@@ -64,9 +64,11 @@ def refusals(log):
 
 
 def function_at(crate, file, line):
-    """The function that starts in this line, or below attributes in it."""
-    below = "\n".join((ROOT / "crates" / crate / file).read_text().split("\n")[line - 1:])
-    return FUNCTION.search(below)[1]
+    """The function that starts in this line, below attributes, or that this line stands in."""
+    lines = (ROOT / "crates" / crate / file).read_text().split("\n")
+    while lines[line - 1].startswith("#["):
+        line += 1
+    return next(found[1] for found in map(FUNCTION.search, reversed(lines[:line])) if found)
 
 
 def fact_of(crate, said):
