@@ -9,7 +9,7 @@ from edits import ROOT
 # A function, type or constant of code.
 ITEM = re.compile(
     r'^(?P<indent> *)(?P<pub>pub )?(?:pub\(crate\) )?(?:extern "C" )?'
-    r"(?P<kind>fn|struct|enum|const|impl)(?:<[^>]*>)? (?P<name>\w+)",
+    r"(?P<kind>fn|struct|enum|const|impl)(?:<[^>]*>)? (?:\w+(?:<.*>)? for )?(?P<name>\w+)",
     re.M,
 )
 # A definition or a statement of a specification.

@@ -18,7 +18,8 @@ DECLARES = {
     "": r"^(?:def |class )?NAME\b",
 }
 MEMBER = r"^ +(?:pub(?:\(crate\))? )?(?:fn |const )?NAME\b"
-BLOCK = r"^(?:pub(?:\(crate\))? )?(?:impl(?:<[^>]*>)?|struct|enum) NAME\b.*?^}"
+BLOCK = (r"^(?:pub(?:\(crate\))? )?"
+         r"(?:impl(?:<[^>]*>)?(?: \w+(?:<.*>)? for)?|struct|enum) NAME\b.*?^}")
 
 
 @lru_cache(maxsize=None)

@@ -114,7 +114,7 @@ ARM = re.compile(r"        (\d+)(?:\.\.=(\d+))? => true,")
 CORRECTED = re.compile(r"fn by_manual\(.*?match template \{\n(.*?)^        _ => as_crate,$",
                        re.M | re.S)
 CORRECTION = re.compile(r"        (\d+) => Offsets \{\n"
-                        r"            (?:width: TimeOctets::(Two)|process: Index::At\((\d+)\)),\n"
+                        r"            (?:width: TimeOctets::(Two)|process: Some\((\d+)\)),\n"
                         r"            \.\.as_crate\n        \},\n")
 ENTRY = re.compile(r"^- \*\*(templates? [^*]*)\*\*.*\n((?:  .*\n)*)", re.M)
 NUMBERS = r"4\.\d+(?: to 4\.\d+)?"

@@ -44,7 +44,7 @@ FAULTS = {
     ]),
     # Where the Manual has it; 01, the crate and both readings have it at index 2.
     "process_of_83": ("template 83's process is at index 16, in definitions and code", "fields", [
-        Edit("products/specs/Templates.antt", "(83 to 83 is At 2)", "(83 to 83 is At 16)"),
+        Edit("products/specs/Templates.antt", "(83 to 83 is Some 2)", "(83 to 83 is Some 16)"),
         Edit("products/specs/Rows.antt", "row 2 22 27", "row 16 22 27"),
         Edit("products/src/templates.rt", "02 * PROCESS + 22 * TIME + 27 * SURFACES, // 83",
              "16 * PROCESS + 22 * TIME + 27 * SURFACES, // 83"),
@@ -60,7 +60,7 @@ FAULTS = {
     ]),
     # An unsupported template: its fields are none whatever its row says.
     "surfaces_of_16": ("template 16 has surfaces as 15 has, in definitions and code", "offsets", [
-        Edit("products/specs/Templates.antt", "(0 to 15 is At 13)", "(0 to 16 is At 13)"),
+        Edit("products/specs/Templates.antt", "(0 to 15 is Some 13)", "(0 to 16 is Some 13)"),
         Edit("products/specs/Rows.antt", "row 2 8 13 ∷ row 2 no no", "row 2 8 13 ∷ row 2 no 13"),
         Edit("products/src/templates.rt", "NO * SURFACES, // 16", "13 * SURFACES, // 16"),
     ]),
@@ -78,8 +78,9 @@ FAULTS = {
              "text(out, b\" open\"),", "text(out, b\" 0\"),"),
     ]),
     "minus_sign": ("-99 to -1 lose their sign; what prints has no contract", "signed", [
-        Edit("replaying/src/printing.rt", "    if number < 0 {\n        text(out, b\" -\")?;",
-             "    if number < -99 {\n        text(out, b\" -\")?;"),
+        Edit("replaying/src/printing.rt", "number: i32) -> io::Result<()> {\n",
+             "number: i32) -> io::Result<()> {\n"
+             "    let number = if -100 < number && number < 0 { 0 - number } else { number };\n"),
     ]),
 }
 

@@ -1,4 +1,5 @@
 -- The crate's words back: what a walk tells, in the crate's words, is that again.
+use Rattle.std.specs.Prelude.{Option, Some, None, Ok, Err}
 use Prim.Native.Nat.{ℕ, zero, suc, ◌+◌, ◌≤◌}
 use native.Mathlib.Omega.{arith}
 use mathlib.Core.Path.{◌≡◌, refl, sym, ap, ◌∙◌}
@@ -20,14 +21,8 @@ use Rattle.order.specs.declared.Place.{Place}
 use Rattle.index.specs.Lines.{span}
 use Rattle.index.specs.Bounds.{unlimited}
 use Rattle.index.specs.declared.line.Line.{Line}
-use Rattle.index.specs.declared.line.LocalUsePlace.{LocalUsePlace}
-use Rattle.index.specs.declared.line.LocalUsePlace.TheVariants.{At, Absent}
-use Rattle.index.specs.declared.line.MessageEnd.{MessageEnd}
-use Rattle.index.specs.declared.line.MessageEnd.TheVariants.{GoesOn, ClosedAt}
 use Rattle.index.specs.declared.refusal.Refusal.{Refusal}
 use Rattle.index.specs.declared.refusal.Refusal.TheVariants as refusal
-use Rattle.index.specs.declared.refusal.Outcome.{Outcome}
-use Rattle.index.specs.declared.refusal.Outcome.TheVariants as outcome
 use Rattle.index.specs.Numbers.{end_of, refusal_number, refusal_detail, fault_number, fault_detail}
 use Rattle.index.specs.Walk.{Reached, Judgement, stops, passes, gone_on, concluded, followed, walked}
 use Rattle.index.specs.Pins.{Every, PinnedLine, count_of}
@@ -43,14 +38,15 @@ use Rattle.as_the_crate.specs.Told.{section_in, local_in, end_in, line_in, close
 use Rattle.as_the_crate.proofs.Words.{infos_of, kept_local, kept_end, submessage_of, submessages_of, word_of, in_words}
 use Rattle.as_the_crate.proofs.Tables.{freely_by, freely, freely_from}
 use Rattle.as_the_crate.proofs.Whole.{unlimited_held}
+use Rattle.index.specs.Outcome.{Outcome, refused_there}
 
 pub sections_back : (ss : List Section) → map (λ (s : SectionInfo). section_in s) (infos_of ss) ≡ ss
 sections_back [] = refl
 sections_back (s ∷ ss) = ap (λ (more : List Section). s ∷ more) (sections_back ss)
 
-local_back : (l : LocalUsePlace) → local_in (kept_local (λ k. k) l) ≡ l
-local_back (At p) = refl
-local_back Absent = refl
+local_back : (l : Option Place) → local_in (kept_local (λ k. k) l) ≡ l
+local_back (Some p) = refl
+local_back None = refl
 
 closed_back : (ss : List Section) → closed_in (infos_of ss) ≡ count_of 8 ss
 closed_back [] = refl
@@ -63,24 +59,24 @@ offset_back (s ∷ ss) (suc k) = offset_back ss k
 
 module _ {file : List ℕ} {ss : List Section} where
   -- a pinned line's message goes on, or is closed at a place that is not 0
-  pub by_end : {l : Line} → PinnedLine file ss l → (So : MessageEnd → Type 0) → So GoesOn → ((p : Place) → Not (p.0 ≡ 0) → So (ClosedAt p))
+  pub by_end : {l : Line} → PinnedLine file ss l → (So : Option Place → Type 0) → So None → ((p : Place) → Not (p.0 ≡ 0) → So (Some p))
       → So l.end
   by_end {l} pins So ajar closed = go l.end refl
     where
-      not_0 : (p : Place) → l.end ≡ ClosedAt p → Not (p.0 ≡ 0)
+      not_0 : (p : Place) → l.end ≡ Some p → Not (p.0 ≡ 0)
       not_0 p e zeroth =
-          let goes_on : l.end ≡ GoesOn = pins.goes_on λ there. (let same = ap ninth_of (sym e ∙ pins.closed there) in omega arith) in
+          let goes_on : l.end ≡ None = pins.goes_on λ there. (let same = ap ninth_of (sym e ∙ pins.closed there) in omega arith) in
           let never : ◌≡◌ {A = ℕ} 1 0 = ap closings (sym e ∙ goes_on) in
           omega arith
 
-      go : (e : MessageEnd) → l.end ≡ e → So e
-      go GoesOn e = ajar
-      go (ClosedAt p) e = closed p (not_0 p e)
+      go : (e : Option Place) → l.end ≡ e → So e
+      go None e = ajar
+      go (Some p) e = closed p (not_0 p e)
 
   -- so its end comes back
   end_back : {l : Line} → PinnedLine file ss l → (line_in file (infos_of ss) (submessage_of positions (λ k. k) l)).end ≡ l.end
   end_back pins =
-      by_end pins (λ (e : MessageEnd). end_in (kept_end positions (λ k. k) e) ≡ e) refl (λ p other. rw (ne_eqb p.0 0 other))
+      by_end pins (λ (e : Option Place). end_in (kept_end positions (λ k. k) e) ≡ e) refl (λ p other. rw (ne_eqb p.0 0 other))
 
   -- and so does where its message stands
   span_back : {l : Line} → PinnedLine file ss l → (line_in file (infos_of ss) (submessage_of positions (λ k. k) l)).span ≡ l.span
@@ -110,8 +106,8 @@ Usual refusal.SectionTableFull = ⊥
 Usual refusal.SubmessageTableFull = ⊥
 
 abbrev Ordinary : Outcome → Type 0
-Ordinary outcome.Clean = Unit
-Ordinary (outcome.Refused why place offset) = Usual why
+Ordinary (Ok tt) = Unit
+Ordinary (Err stop) = Usual stop.why
 
 abbrev Orderly : Judgement → Type 0
 Orderly (stops lines why) = Usual why
@@ -144,36 +140,43 @@ module _ (file : List ℕ) where
   ss = (walked unlimited file).sections
 
   -- a refusal of 2 to 9 has the count of sections as its place
-  counted : (f : Fault) (p : Place) (o : Offset) → (walked unlimited file).outcome ≡ outcome.Refused (refusal.Unreadable f) p o
+  counted : (f : Fault) (p : Place) (o : Offset) → (walked unlimited file).outcome ≡ Err (refused_there (refusal.Unreadable f) p o)
       → Not (fault_number f ≡ 0) → Not (fault_number f ≡ 1) → Not (fault_number f ≡ 10) → length (infos_of ss) ≡ p.0
   unfolding end_of refusal_number refusal_detail
   counted f p o e n0 n1 n10 =
       as_many ss ∙ sym (place_is_count unlimited file (fault_number f) p.0 o.0 (fault_detail f) n0 n1 n10 (ap end_of e))
 
+  refused_back : (why : Refusal) (p : Place) (o : Offset) → (walked unlimited file).outcome ≡ Err (refused_there why p o)
+      → Ordinary (Err (refused_there why p o)) → Not (word_of (Err (refused_there why p o)) ≡ overflow)
+      → outcome_in (end_of (Err (refused_there why p o))).detail (infos_of ss) (word_of (Err (refused_there why p o)))
+      ≡ Err (refused_there why p o)
+  unfolding end_of refusal_number refusal_detail fault_number fault_detail
+  refused_back refusal.FileTooLong p o e h no_overflow = absurd h
+  refused_back (refusal.Unreadable (fault.Cut missing)) p o e h no_overflow =
+      rw (counted (fault.Cut missing) p o e (λ z. omega arith) (λ z. omega arith) (λ z. omega arith)) refl
+  refused_back (refusal.Unreadable (fault.OtherEdition edition)) p o e h no_overflow =
+      rw (counted (fault.OtherEdition edition) p o e (λ z. omega arith) (λ z. omega arith) (λ z. omega arith)) refl
+  refused_back (refusal.Unreadable fault.TotalUnder16) p o e h no_overflow = absurd (no_overflow refl)
+  refused_back (refusal.Unreadable fault.NotEndMark) p o e h no_overflow =
+      rw (counted fault.NotEndMark p o e (λ z. omega arith) (λ z. omega arith) (λ z. omega arith)) refl
+  refused_back (refusal.Unreadable (fault.LengthUnder5 len)) p o e h no_overflow = absurd (no_overflow refl)
+  refused_back (refusal.Unreadable (fault.UnknownNumber number)) p o e h no_overflow =
+      rw (counted (fault.UnknownNumber number) p o e (λ z. omega arith) (λ z. omega arith) (λ z. omega arith)) refl
+  refused_back (refusal.Unreadable (fault.PayloadUnderLeast size)) p o e h no_overflow =
+      rw (counted (fault.PayloadUnderLeast size) p o e (λ z. omega arith) (λ z. omega arith) (λ z. omega arith)) refl
+  refused_back (refusal.Unreadable (fault.LongerThanRest len)) p o e h no_overflow = absurd (no_overflow refl)
+  refused_back refusal.InputOver p o e h no_overflow =
+      rw (offset_back ss p.0, ← (input_over_at_last unlimited file p.0 o.0 0 (ap end_of e)).1) refl
+  refused_back (refusal.Misplaced number) p o e h no_overflow = refl
+  refused_back (refusal.NoGrid number) p o e h no_overflow = refl
+  refused_back refusal.SectionTableFull p o e h no_overflow = absurd h
+  refused_back refusal.SubmessageTableFull p o e h no_overflow = absurd h
+
   outcome_back : (o : Outcome) → (walked unlimited file).outcome ≡ o → Ordinary o → Not (word_of o ≡ overflow)
       → outcome_in (end_of o).detail (infos_of ss) (word_of o) ≡ o
-  unfolding end_of refusal_number refusal_detail fault_number fault_detail
-  outcome_back outcome.Clean e h no_overflow = refl
-  outcome_back (outcome.Refused refusal.FileTooLong p o) e h no_overflow = absurd h
-  outcome_back (outcome.Refused (refusal.Unreadable (fault.Cut missing)) p o) e h no_overflow =
-      rw (counted (fault.Cut missing) p o e (λ z. omega arith) (λ z. omega arith) (λ z. omega arith)) refl
-  outcome_back (outcome.Refused (refusal.Unreadable (fault.OtherEdition edition)) p o) e h no_overflow =
-      rw (counted (fault.OtherEdition edition) p o e (λ z. omega arith) (λ z. omega arith) (λ z. omega arith)) refl
-  outcome_back (outcome.Refused (refusal.Unreadable fault.TotalUnder16) p o) e h no_overflow = absurd (no_overflow refl)
-  outcome_back (outcome.Refused (refusal.Unreadable fault.NotEndMark) p o) e h no_overflow =
-      rw (counted fault.NotEndMark p o e (λ z. omega arith) (λ z. omega arith) (λ z. omega arith)) refl
-  outcome_back (outcome.Refused (refusal.Unreadable (fault.LengthUnder5 len)) p o) e h no_overflow = absurd (no_overflow refl)
-  outcome_back (outcome.Refused (refusal.Unreadable (fault.UnknownNumber number)) p o) e h no_overflow =
-      rw (counted (fault.UnknownNumber number) p o e (λ z. omega arith) (λ z. omega arith) (λ z. omega arith)) refl
-  outcome_back (outcome.Refused (refusal.Unreadable (fault.PayloadUnderLeast size)) p o) e h no_overflow =
-      rw (counted (fault.PayloadUnderLeast size) p o e (λ z. omega arith) (λ z. omega arith) (λ z. omega arith)) refl
-  outcome_back (outcome.Refused (refusal.Unreadable (fault.LongerThanRest len)) p o) e h no_overflow = absurd (no_overflow refl)
-  outcome_back (outcome.Refused refusal.InputOver p o) e h no_overflow =
-      rw (offset_back ss p.0, ← (input_over_at_last unlimited file p.0 o.0 0 (ap end_of e)).1) refl
-  outcome_back (outcome.Refused (refusal.Misplaced number) p o) e h no_overflow = refl
-  outcome_back (outcome.Refused (refusal.NoGrid number) p o) e h no_overflow = refl
-  outcome_back (outcome.Refused refusal.SectionTableFull p o) e h no_overflow = absurd h
-  outcome_back (outcome.Refused refusal.SubmessageTableFull p o) e h no_overflow = absurd h
+  unfolding end_of
+  outcome_back (Ok tt) e h no_overflow = refl
+  outcome_back (Err stop) e h no_overflow = refused_back stop.why stop.place stop.offset e h no_overflow
 
   -- all that the walk tells
   pub told_back : length file ≤ 1099511627776 → Not (word_of (walked unlimited file).outcome ≡ overflow)

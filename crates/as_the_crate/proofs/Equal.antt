@@ -1,4 +1,5 @@
 -- Reading equals the crate's: the statements of specs/Equal.antt.
+use Rattle.std.specs.Prelude.{Option, Some, None}
 use Prim.Native.Nat.{ℕ, suc, ◌/◌, ◌≤◌}
 use native.Mathlib.Omega.{arith}
 use mathlib.Core.Path.{◌≡◌, refl, sym, ap, subst, ◌∙◌}
@@ -11,9 +12,6 @@ use Rattle.framing.specs.declared.read.Section.{Section}
 use Rattle.framing.proofs.Tests.{by_test}
 use Rattle.index.specs.Bounds.{unlimited}
 use Rattle.index.specs.declared.line.Line.{Line}
-use Rattle.index.specs.declared.line.LocalUsePlace.{LocalUsePlace}
-use Rattle.index.specs.declared.line.LocalUsePlace.TheVariants.{At, Absent}
-use Rattle.index.specs.declared.line.MessageEnd.{MessageEnd}
 use Rattle.index.specs.Walk.{Told, walked}
 use Rattle.index.specs.Pins.{Every, PinnedLine}
 use Rattle.index.proofs.Pins.{lines_are_pinned}
@@ -33,6 +31,7 @@ use Rattle.as_the_crate.proofs.Words.{infos_of, kept_local, kept_end, submessage
 use Rattle.as_the_crate.proofs.Whole.{free, crate_free, held, unlimited_held, with_places_lem, with_sections, in_its_words}
 use Rattle.as_the_crate.proofs.JustHeld.{crate_lines_are_pinned}
 use Rattle.as_the_crate.proofs.Back.{as_many, by_end, told_back}
+use Rattle.order.specs.declared.Place.{Place}
 
 pub as_many_lines : (ls : List Line) → length (submessages_of positions (λ k. k) ls) ≡ length ls
 as_many_lines [] = refl
@@ -55,9 +54,9 @@ equals_the_rust file is no_overflow room (rows, lines) =
 
 pub open_loses_nothing : OpenLosesNothing
 open_loses_nothing = (
-  λ pos. by_test (λ (e : MessageEnd). ninth_of e ≡ pos) (eqb pos 0) (λ e. sym (eqb-true pos 0 e)) (λ e. refl),
+  λ pos. by_test (λ (e : Option Place). ninth_of e ≡ pos) (eqb pos 0) (λ e. sym (eqb-true pos 0 e)) (λ e. refl),
   λ room file. every_map (walked room file).lines
-      (λ line pins. by_end pins (λ (e : MessageEnd). end_in (ninth_of e) ≡ e) refl (λ p other. rw (ne_eqb p.0 0 other)))
+      (λ line pins. by_end pins (λ (e : Option Place). end_in (ninth_of e) ≡ e) refl (λ p other. rw (ne_eqb p.0 0 other)))
       (lines_are_pinned room file),
 )
 
@@ -87,9 +86,9 @@ pull_equals_the_rust file is no_overflow call =
     let one = ap (λ (told : Told). hands_out 0 told.sections told.outcome call) (unlimited_equals file is no_overflow) in
     (one, sequence file call ∙ one)
 
-local_looked_up : (passed : List SectionInfo) (l : LocalUsePlace) → kept_local (passed_at passed) l ≡ passed_at_some passed (kept_local (λ k. k) l)
-local_looked_up passed (At p) = refl
-local_looked_up passed Absent = refl
+local_looked_up : (passed : List SectionInfo) (l : Option Place) → kept_local (passed_at passed) l ≡ passed_at_some passed (kept_local (λ k. k) l)
+local_looked_up passed (Some p) = refl
+local_looked_up passed None = refl
 
 -- no section 8 at place 0 is looked up
 end_looked_up : (passed : List SectionInfo) {file : List ℕ} {ss : List Section} {l : Line} → PinnedLine file ss l
@@ -97,7 +96,7 @@ end_looked_up : (passed : List SectionInfo) {file : List ℕ} {ss : List Section
     ≡ kept_end infos (passed_at passed) l.end
 end_looked_up passed pins =
     by_end pins
-    (λ (e : MessageEnd).
+    (λ (e : Option Place).
     let pos = kept_end positions (λ k. k) e in
     pick (eqb pos 0) (info 8 0 4) (passed_at passed pos) ≡ kept_end infos (passed_at passed) e)
     refl (λ p other. rw (ne_eqb p.0 0 other))

@@ -1,4 +1,5 @@
 -- One call of Grib2SectionStream's `next` is one read of 01's framing.
+use Rattle.std.specs.Prelude.{Option, Some, None}
 use Prim.Native.Nat.{ℕ, ◌+◌, ◌-◌, ◌≤◌, ◌<◌}
 use native.Mathlib.Omega.{arith}
 use mathlib.Core.Path.{◌≡◌, refl}
@@ -11,11 +12,8 @@ use Rattle.octets.specs.Words.{pick}
 use Rattle.octets.specs.BigEndian.{be_at}
 use Rattle.octets.proofs.Laws.{be_lt}
 use Rattle.sections.specs.Kinds.{least_payload_of, kind_of, kinds}
-use Rattle.sections.specs.declared.kinds.LeastOf.TheVariants.{Octets as least-of}
 use Rattle.framing.specs.Search.{says, IsNextStart, next_start}
 use Rattle.framing.specs.Framing.{section_at, refused_at, indicator_at, end_at, is_cut, payload_at, header_at, message_at, read_at}
-use Rattle.framing.specs.declared.search.Found.{Found}
-use Rattle.framing.specs.declared.search.Found.TheVariants.{At, Nowhere}
 use Rattle.framing.specs.declared.read.Offset.{Offset}
 use Rattle.framing.specs.declared.read.Fault.{Fault}
 use Rattle.framing.specs.declared.read.Fault.TheVariants as fault
@@ -69,11 +67,11 @@ after0 at found =
     minus found.1 16 λ rest_size.
     gives (info 0 offset 16, record { reader = found.2; whole_size = whole_size; rest_size = rest_size })
 
-message : (number : ℕ) (file : List ℕ) (at : ℕ) (found : Found) → length file ≤ 1099511627776 → IsNextStart file at found
+message : (number : ℕ) (file : List ℕ) (at : ℕ) (found : Option ℕ) → length file ≤ 1099511627776 → IsNextStart file at found
     → Same number (try (found_at file at 0 found) (after0 at)) (message_at file found)
 unfolding Indicator-from_slice message_at indicator_at
-message number file at Nowhere most absent = refl
-message number file at (At g) most (from, there, first) =
+message number file at None most absent = refl
+message number file at (Some g) most (from, there, first) =
     let total = be_at file (g + 8) 8 in
     let place : at + (0 + (g - at)) ≡ g = omega arith in
     let room = start_room file g there in
@@ -146,7 +144,7 @@ module _ (file : List ℕ) (at rest len num : ℕ) where
         rw (same_test (length file - (at + 5)) (len - 5) left len (λ p. omega arith) (λ p. omega arith), end) refl
 
     checked : (least : ℕ) → is_cut num len left ≡ ltb left len → eqb num 6 ≡ false
-        → Same num (begun at (try (read_checked file (at + 5) least (len - 5)) finish)) (payload_at (least-of least) at num len left rest)
+        → Same num (begun at (try (read_checked file (at + 5) least (len - 5)) finish)) (payload_at (Some least) at num len left rest)
     unfolding read_slice_without_offset_check from_payload payload_at
     checked least cut other =
         rw (exact, cut)
@@ -158,7 +156,7 @@ module _ (file : List ℕ) (at rest len num : ℕ) where
         (λ long. rw long (done (at + len) refl some)))))
 
     plain : is_cut num len left ≡ ltb left len
-        → Same num (begun at (try (read_slice_without_offset_check file (at + 5) (len - 5)) finish)) (payload_at (least-of 0) at num len left rest)
+        → Same num (begun at (try (read_slice_without_offset_check file (at + 5) (len - 5)) finish)) (payload_at (Some 0) at num len left rest)
     unfolding read_slice_without_offset_check payload_at
     plain cut =
         rw (exact, cut, le-ltb (len - 5) 0 (omega arith))
@@ -167,7 +165,7 @@ module _ (file : List ℕ) (at rest len num : ℕ) where
         (λ e. rw e (done (at + len) refl some)))
 
     sixth : is_cut num len left ≡ (ltb left len || ltb left 6) → eqb num 6 ≡ true
-        → Same num (begun at (try (read_sect6_payload file (at + 5) (len - 5)) finish)) (payload_at (least-of 1) at num len left rest)
+        → Same num (begun at (try (read_sect6_payload file (at + 5) (len - 5)) finish)) (payload_at (Some 1) at num len left rest)
     unfolding read_sect6_payload Cursor-read_exact payload_at
     sixth cut six =
         rw (cut, same_test (length file - (at + 5)) 1 left 6 (λ p. omega arith) (λ p. omega arith))
@@ -195,7 +193,7 @@ module _ (file : List ℕ) (at rest len num : ℕ) where
         rw (no_more, le-ltb left len (omega arith)) (done (at + 5 + 1) (omega arith) some)))))))
 
     seventh : at + len < 18446744073709551616 → is_cut num len left ≡ false
-        → Same num (begun at (try (skip_sect7_payload (at + 5) (len - 5)) finish)) (payload_at (least-of 0) at num len left rest)
+        → Same num (begun at (try (skip_sect7_payload (at + 5) (len - 5)) finish)) (payload_at (Some 0) at num len left rest)
     unfolding skip_sect7_payload payload_at
     seventh below cut =
         rw (cut, seek_is (at + 5) (len - 5) 0 (at + len) (omega arith) below, le-ltb (len - 5) 0 (omega arith)) (done (at + len) refl some)

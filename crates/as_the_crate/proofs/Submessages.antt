@@ -1,4 +1,5 @@
 -- Over an iterator that yields a listing, the crate's streams of submessages tell what the walk tells down that listing.
+use Rattle.std.specs.Prelude.{Option, Some, None}
 use Prim.Native.Nat.{ℕ, zero, suc, ◌+◌, ◌*◌, ◌≤◌, ◌<◌}
 use native.Mathlib.Omega.{arith}
 use mathlib.Core.Path.{◌≡◌, refl, ap}
@@ -17,12 +18,10 @@ use Rattle.framing.specs.declared.read.Fault.{Fault}
 use Rattle.index.specs.Lines.{place, span, in_force, line_of}
 use Rattle.index.specs.declared.line.Span.{Span}
 use Rattle.index.specs.declared.line.Force.{Force}
-use Rattle.index.specs.declared.line.LocalUsePlace.{LocalUsePlace}
-use Rattle.index.specs.declared.line.LocalUsePlace.TheVariants.{At, Absent}
 use Rattle.index.specs.declared.listed.Listed.{Listed}
 use Rattle.index.specs.declared.bounds.Room.{Room}
 use Rattle.index.specs.Walk.{Reached, span_behind, fitted, closing, by_order, judgement, concluded, walked_from}
-use Rattle.as_the_crate.specs.Std.{ParseError, Dropped, nothing, gives, none, errs, overflows, info}
+use Rattle.as_the_crate.specs.Std.{ParseError, Dropped, gives, none, errs, overflows, info}
 use Rattle.as_the_crate.specs.Parser.{Advance, Keeping, Submessage, SubmessageStream, Locals, locals, fresh_locals, caching, ValidatorState}
 use Rattle.as_the_crate.specs.Parser.{StartOfMessage, EndOfSect}
 use Rattle.as_the_crate.specs.Parser.{ensure_next_is_sect0, ensure_next_is_sect_2_or_3_or_4, ensure_next_is_sect8, ensure_next_is_sect_num}
@@ -30,19 +29,20 @@ use Rattle.as_the_crate.specs.Parser.{next_in, match_num, fails, overflow, adds,
 use Rattle.as_the_crate.proofs.Words.{info_of, kept_local, failure_of, in_words}
 use Rattle.as_the_crate.proofs.Decide.{decide}
 use Rattle.as_the_crate.proofs.Stream.{Yields, is_over, is_refused, is_broken, yields}
+use Rattle.order.specs.declared.Place.{Place}
 
 -- the places in force
 pub record Places : Type 0 where
   pub p0 : ℕ
   pub p1 : ℕ
-  pub local : LocalUsePlace
+  pub local : Option Place
   pub p3 : ℕ
   pub p4 : ℕ
   pub p5 : ℕ
   pub p6 : ℕ
   pub p7 : ℕ
 
-abbrev pub places : ℕ → ℕ → LocalUsePlace → ℕ → ℕ → ℕ → ℕ → ℕ → Places
+abbrev pub places : ℕ → ℕ → Option Place → ℕ → ℕ → ℕ → ℕ → ℕ → Places
 places p0 p1 local p3 p4 p5 p6 p7 =
     record { p0 = p0; p1 = p1; local = local; p3 = p3; p4 = p4; p5 = p5; p6 = p6; p7 = p7 }
 
@@ -54,7 +54,7 @@ abbrev with1 : Places → ℕ → Places
 with1 k n = places k.p0 n k.local k.p3 k.p4 k.p5 k.p6 k.p7
 
 abbrev with2 : Places → ℕ → Places
-with2 k n = places k.p0 k.p1 (At (place n)) k.p3 k.p4 k.p5 k.p6 k.p7
+with2 k n = places k.p0 k.p1 (Some (place n)) k.p3 k.p4 k.p5 k.p6 k.p7
 
 abbrev with3 : Places → ℕ → Places
 with3 k n = places k.p0 k.p1 k.local n k.p4 k.p5 k.p6 k.p7
@@ -264,7 +264,7 @@ module _ {K : Type 0} (κ : Keeping K) (look : ℕ → K) where
   rust_of x k u c i =
       caching
       (record {
-        iter = record { iter = i; count = c.sections; peeked = nothing };
+        iter = record { iter = i; count = c.sections; peeked = None };
         pos = c.last.place.0;
         message_count = c.message;
         submessage_count = c.submessage;
@@ -449,7 +449,7 @@ module _ {K : Type 0} (κ : Keeping K) (look : ℕ → K) where
         let q = rw (eqb-true s.number 8 is, lt-leb room.rows c.sections (omega arith), lt-leb room.lines c.lines (omega arith)) at seen in
         rw (eqb-true s.number 8 is, lt-leb room.rows c.sections (omega arith), lt-leb room.lines c.lines (omega arith), ne_eqb c.sections 0 (omega arith), q.0)
         (ap (adds (info 8 s.offset.0 s.length ∷ []) (in_hand k c (look c.sections) ∷ []))
-        (later between (places 0 0 Absent 0 0 0 0 0) nothing_kept (suc n) (told_end c (numbered 8 s)) (omega arith) q.1 (omega arith) (omega arith) (omega arith))))
+        (later between (places 0 0 None 0 0 0 0 0) nothing_kept (suc n) (told_end c (numbered 8 s)) (omega arith) q.1 (omega arith) (omega arith) (omega arith))))
         λ not8. decide (eqb s.number 2)
         (λ is.
         let q = rw (eqb-true s.number 2 is, lt-leb room.lines c.lines (omega arith), lt-leb room.rows c.sections (omega arith)) at seen in

@@ -1,4 +1,5 @@
 -- Tables that hold what a walk tells change nothing of it.
+use Rattle.std.specs.Prelude.{Some, None}
 use Prim.Native.Nat.{◌+◌, ◌≤◌}
 use native.Mathlib.Omega.{arith}
 use mathlib.Core.Path.{◌≡◌, refl}
@@ -17,7 +18,6 @@ use Rattle.framing.specs.Listing.{Ending}
 use Rattle.framing.specs.declared.read.Section.{Section}
 use Rattle.framing.proofs.Tests.{by_test}
 use Rattle.index.specs.Lines.{place, opened, line_of}
-use Rattle.index.specs.declared.line.MessageEnd.TheVariants.{GoesOn, ClosedAt}
 use Rattle.index.specs.declared.line.Line.{Line}
 use Rattle.index.specs.declared.refusal.Refusal.TheVariants as refusal
 use Rattle.index.specs.declared.bounds.Room.{Room}
@@ -36,7 +36,7 @@ freely_by (judged.Fits order) r s lines =
       force = comes_in_force r.file r.force s (place r.sections);
     })
 freely_by judged.Closes r s lines =
-    passes (line_of r.force (ClosedAt (place r.sections)) ∷ []) 1
+    passes (line_of r.force (Some (place r.sections)) ∷ []) 1
     (record {
       file = r.file;
       sections = r.sections + 1;
@@ -51,7 +51,7 @@ freely_by judged.NoGrid r s lines = stops lines (refusal.NoGrid s.number)
 unfoldable pub freely : Reached → Section → Judgement
 freely r s =
     pick (completes r.order s.number)
-    (freely_by (judged SubmessageStart s.number) (gone_on r) s (line_of r.force GoesOn ∷ []))
+    (freely_by (judged SubmessageStart s.number) (gone_on r) s (line_of r.force None ∷ []))
     (freely_by (judged r.order s.number) r s [])
 
 unfoldable pub freely_from : Reached → List Section → Ending → Told
@@ -80,7 +80,7 @@ counted r s =
     (λ e. at_once (judged r.order s.number))
   where
     J : Judged → Type 0
-    J j = Counted r (freely_by j (gone_on r) s (line_of r.force GoesOn ∷ []))
+    J j = Counted r (freely_by j (gone_on r) s (line_of r.force None ∷ []))
 
     at_once : (j : Judged) → Counted r (freely_by j r s [])
     at_once (judged.Fits order) = (refl, omega arith, omega arith)
@@ -93,7 +93,7 @@ unfolding judgement freely judged by_order fitted closing
 same room r s = go (completes r.order s.number)
   where
     line : List Line
-    line = line_of r.force GoesOn ∷ []
+    line = line_of r.force None ∷ []
 
     fits : (q : Reached) (lines : List Line) (order : Order) → q.sections + 1 ≤ room.rows
         → by_order (judged.Fits order) room q s lines ≡ freely_by (judged.Fits order) q s lines

@@ -1,4 +1,5 @@
 -- On a whole file, the crate's streams tell what the walk tells down the crate's listing; that ends in an overflow, or is the walk.
+use Rattle.std.specs.Prelude.{None}
 use Prim.Native.Nat.{ℕ, suc, ◌+◌, ◌*◌, ◌≤◌}
 use native.Mathlib.Omega.{arith}
 use mathlib.Core.Path.{◌≡◌, refl, sym, ap, subst, ◌∙◌}
@@ -10,7 +11,6 @@ use Rattle.octets.specs.Words.{Not}
 use Rattle.framing.specs.Listing.{listing}
 use Rattle.framing.specs.declared.read.Section.{Section}
 use Rattle.index.specs.Lines.{place, span}
-use Rattle.index.specs.declared.line.LocalUsePlace.TheVariants.{Absent}
 use Rattle.index.specs.Bounds.{unlimited}
 use Rattle.index.specs.declared.bounds.Room.{Room}
 use Rattle.index.specs.Walk.{Told, at_start, walked}
@@ -65,7 +65,7 @@ down_its_listing κ look file is seen =
     let b = told.1 in
     let one = in_tables L.sections L.ending (at_start file) unlimited (omega arith) (omega arith) in
     submessages κ look (Grib2SectionStream-next file) unlimited L.sections L.ending (stream 0 0)
-    (stream_yields turns file 0 0 most is.octets (omega arith)) between (places 0 0 Absent 0 0 0 0 0) (nothing_kept κ look) (2 * turns + 2)
+    (stream_yields turns file 0 0 most is.octets (omega arith)) between (places 0 0 None 0 0 0 0 0) (nothing_kept κ look) (2 * turns + 2)
     (record {
       file = file;
       sections = 0;

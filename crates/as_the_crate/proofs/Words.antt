@@ -1,13 +1,10 @@
 -- What a walk tells, in the crate's words: the way by which the proofs go. A section that can't be read is an error or an overflow;
 -- 1, 13 and 14 are not the crate's.
+use Rattle.std.specs.Prelude.{Option, Some, None, Ok, Err}
 use Prim.Native.Nat.{ℕ, ◌<◌}
 use mathlib.Core.List.{List, [], ◌∷◌}
 use lib.ListN.{get_or}
 use Rattle.order.specs.declared.Place.{Place}
-use Rattle.index.specs.declared.line.LocalUsePlace.{LocalUsePlace}
-use Rattle.index.specs.declared.line.LocalUsePlace.TheVariants.{At, Absent}
-use Rattle.index.specs.declared.line.MessageEnd.{MessageEnd}
-use Rattle.index.specs.declared.line.MessageEnd.TheVariants.{GoesOn, ClosedAt}
 use Rattle.index.specs.declared.line.Line.{Line}
 use Rattle.framing.specs.declared.read.Offset.{Offset}
 use Rattle.framing.specs.declared.read.Section.{Section}
@@ -15,13 +12,12 @@ use Rattle.framing.specs.declared.read.Fault.{Fault}
 use Rattle.framing.specs.declared.read.Fault.TheVariants as fault
 use Rattle.index.specs.declared.refusal.Refusal.{Refusal}
 use Rattle.index.specs.declared.refusal.Refusal.TheVariants as refusal
-use Rattle.index.specs.declared.refusal.Outcome.{Outcome}
-use Rattle.index.specs.declared.refusal.Outcome.TheVariants as outcome
 use Rattle.index.specs.Walk.{Told}
-use Rattle.as_the_crate.specs.Std.{ParseError, SectionInfo, info, Option, some, nothing}
+use Rattle.as_the_crate.specs.Std.{ParseError, SectionInfo, info}
 use Rattle.as_the_crate.specs.Std.{ReadError, GRIBVersionMismatch, UnknownSectionNumber, EndSectionMismatch, SectionSizeTooSmall}
 use Rattle.as_the_crate.specs.Std.{UnexpectedEndOfData, InvalidSectionOrder, NoGridDefinition}
 use Rattle.as_the_crate.specs.Parser.{Keeping, Submessage, Collected, Finish, clean, fails, overflow, unended}
+use Rattle.index.specs.Outcome.{Outcome}
 
 -- a list of octets
 abbrev pub Octets : List ℕ → Type 0
@@ -36,14 +32,14 @@ infos_of [] = []
 infos_of (s ∷ more) = info_of s ∷ infos_of more
 
 -- a line, by what a stream keeps of the section at a place
-abbrev pub kept_local : {K : Type 0} → (ℕ → K) → LocalUsePlace → Option K
-kept_local look (At place) = some (look place.0)
-kept_local look Absent = nothing
+abbrev pub kept_local : {K : Type 0} → (ℕ → K) → Option Place → Option K
+kept_local look (Some place) = Some (look place.0)
+kept_local look None = None
 
 -- behind a line whose message goes on the crate has a section 8 of its own making
-abbrev pub kept_end : {K : Type 0} → Keeping K → (ℕ → K) → MessageEnd → K
-kept_end κ look GoesOn = κ.keep 0 (info 8 0 4)
-kept_end κ look (ClosedAt place) = look place.0
+abbrev pub kept_end : {K : Type 0} → Keeping K → (ℕ → K) → Option Place → K
+kept_end κ look None = κ.keep 0 (info 8 0 4)
+kept_end κ look (Some place) = look place.0
 
 abbrev pub submessage_of : {K : Type 0} → Keeping K → (ℕ → K) → Line → Submessage K
 submessage_of κ look l =
@@ -91,8 +87,8 @@ refusal_of refusal.SubmessageTableFull place offset = unended
 
 -- an outcome
 abbrev pub word_of : Outcome → Finish
-word_of outcome.Clean = clean
-word_of (outcome.Refused why place offset) = refusal_of why place offset
+word_of (Ok tt) = clean
+word_of (Err stop) = refusal_of stop.why stop.place stop.offset
 
 -- what a walk tells
 abbrev pub in_words : {K : Type 0} → Keeping K → (ℕ → K) → Told → Collected K

@@ -1,7 +1,7 @@
 -- Reading equals the Rust, on every file of at most 2^40 octets on which the crate does not
 -- overflow (Overflow.antt says when it does). Each statement is an equation between what a function
 -- of this library is defined to give and what the crate's transcription tells.
-use Rattle.std.specs.Prelude.{ℕ, ◌*◌, ◌≤◌, ◌<◌, ◌≡◌, List, map, eqb, length, get_or}
+use Rattle.std.specs.Prelude.{ℕ, ◌*◌, ◌≤◌, ◌<◌, ◌≡◌, List, map, eqb, length, get_or, Option, Some, None}
 use Rattle.octets.specs.Words.{pick, Not}
 use Rattle.index.specs.Numbers.{end_of}
 use Rattle.index.specs.Bounds.{most_octets, unlimited}
@@ -13,7 +13,7 @@ use Rattle.walk.specs.Tables.{answer_of, walk_of}
 use Rattle.walk_numbers.specs.Numbers.{lines_of, seven_of, walk_numbers}
 use Rattle.pull.specs.Pull.{hands_out, pulled}
 use Rattle.pull.specs.Calls.{pull_at, after_calls}
-use Rattle.as_the_crate.specs.Std.{Option, some, nothing, SectionInfo, info}
+use Rattle.as_the_crate.specs.Std.{SectionInfo, info}
 use Rattle.as_the_crate.specs.Parser.{Submessage, overflow}
 use Rattle.as_the_crate.specs.Told.{the_rust, the_public_rust, told_by_the_rust}
 
@@ -92,8 +92,8 @@ passed_at passed pos = get_or passed pos (info 0 0 0)
 
 -- the same for a section 2
 abbrev pub passed_at_some : List SectionInfo → Option ℕ → Option SectionInfo
-passed_at_some passed (some pos) = some (passed_at passed pos)
-passed_at_some passed nothing = nothing
+passed_at_some passed (Some pos) = Some (passed_at passed pos)
+passed_at_some passed None = None
 
 -- a submessage with the sections at its places; place 0 in the ninth position is the section 8 that
 -- the crate makes up

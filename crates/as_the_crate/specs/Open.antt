@@ -1,17 +1,16 @@
 -- Turning the crate's 0 in the ninth position into "goes on" (02, Ticket 7: "Demand 2 then compares
 -- with the Rust after turning its zero into `open`") loses nothing.
-use Rattle.std.specs.Prelude.{ℕ, ◌≡◌, List}
+use Rattle.std.specs.Prelude.{ℕ, ◌≡◌, List, Option, Some, None}
 use Rattle.index.specs.declared.bounds.Room.{Room}
-use Rattle.index.specs.declared.line.MessageEnd.{MessageEnd}
-use Rattle.index.specs.declared.line.MessageEnd.TheVariants.{GoesOn, ClosedAt}
 use Rattle.index.specs.Walk.{walked}
 use Rattle.index.specs.Pins.{Every}
 use Rattle.as_the_crate.specs.Told.{end_in}
+use Rattle.order.specs.declared.Place.{Place}
 
 -- the ninth position as the crate has it
-abbrev pub ninth_of : MessageEnd → ℕ
-ninth_of GoesOn = 0
-ninth_of (ClosedAt p) = p.0
+abbrev pub ninth_of : Option Place → ℕ
+ninth_of None = 0
+ninth_of (Some p) = p.0
 
 -- its number is told by what is made of it; and since no section 8 has place 0, what stands behind a
 -- line of any walk is told by that number

@@ -5,7 +5,7 @@
 -- `I` and `advance` are the Rust's `I: Iterator<Item = Result<SectionInfo, ParseError>>` and its
 -- `next`. After None or an error nothing is read any more, so these tell no state. Counts of
 -- sections, messages and submessages are not tested for overflow: no file has 2^64 of them.
-use Rattle.std.specs.Prelude.{ℕ, zero, suc, ◌+◌, Bool, true, false, List, [], ◌∷◌, ◌++◌, eqb}
+use Rattle.std.specs.Prelude.{ℕ, zero, suc, ◌+◌, Bool, true, false, List, [], ◌∷◌, ◌++◌, eqb, Option, Some, None}
 use Rattle.octets.specs.Words.{pick}
 use Rattle.as_the_crate.specs.Std.{
   ParseError,
@@ -21,9 +21,6 @@ use Rattle.as_the_crate.specs.Std.{
   never,
   err,
   try,
-  Option,
-  some,
-  nothing,
   SectionInfo,
   info,
 }
@@ -46,20 +43,20 @@ pub record Item (I : Type 0) : Type 0 where
 -- Peekable::next, by whether an item was looked at
 abbrev pub next_peekable : {I : Type 0} → Advance I → I → ℕ → Option (ℕ × SectionInfo)
     → Result (Item I)
-next_peekable advance iter count (some item) =
+next_peekable advance iter count (Some item) =
     gives
     (record {
       pos = item.0;
       sect = item.1;
-      rest = record { iter = iter; count = count; peeked = nothing };
+      rest = record { iter = iter; count = count; peeked = None };
     })
-next_peekable advance iter count nothing =
+next_peekable advance iter count None =
     try (advance iter) λ read.
     gives
     (record {
       pos = count;
       sect = read.0;
-      rest = record { iter = read.1; count = count + 1; peeked = nothing };
+      rest = record { iter = read.1; count = count + 1; peeked = None };
     })
 
 -- std Peekable::next
@@ -78,7 +75,7 @@ Peekable-peek advance p =
           record {
             iter = item.rest.iter;
             count = item.rest.count;
-            peeked = some (item.pos, item.sect);
+            peeked = Some (item.pos, item.sect);
           };
     })
 
@@ -102,7 +99,7 @@ pub record Validator (I : Type 0) : Type 0 where
 abbrev pub Validator-new : {I : Type 0} → I → Validator I
 Validator-new iter =
     record {
-      iter = record { iter = iter; count = 0; peeked = nothing };
+      iter = record { iter = iter; count = 0; peeked = None };
       pos = 0;
       message_count = 0;
       submessage_count = 0;
@@ -290,7 +287,7 @@ caching iter sect0 sect1 sect2 sect3 =
 
 -- clear_message_cache
 abbrev pub clear_message_cache : {I K : Type 0} → Keeping K → Validator I → SubmessageStream I K
-clear_message_cache κ iter = caching iter κ.default κ.default nothing κ.default
+clear_message_cache κ iter = caching iter κ.default κ.default None κ.default
 
 -- Grib2SubmessageStream::new, Grib2SubmessageIndexStream::new
 abbrev pub SubmessageStream-new : {I K : Type 0} → Keeping K → I → SubmessageStream I K
@@ -327,7 +324,7 @@ match_num {I} {K} κ num s l p =
     let same = caching v s.sect0 s.sect1 s.sect2 s.sect3 in
     pick (eqb num 0) (loops p.sect (caching v it s.sect1 s.sect2 s.sect3) l)
     (pick (eqb num 1) (loops p.sect (caching v s.sect0 it s.sect2 s.sect3) l)
-    (pick (eqb num 2) (loops p.sect (caching v s.sect0 s.sect1 (some it) s.sect3) l)
+    (pick (eqb num 2) (loops p.sect (caching v s.sect0 s.sect1 (Some it) s.sect3) l)
     (pick (eqb num 3) (loops p.sect (caching v s.sect0 s.sect1 s.sect2 it) l)
     (pick (eqb num 4) (loops p.sect same (locals it l.sect5 l.sect6 l.sect7))
     (pick (eqb num 5) (loops p.sect same (locals l.sect4 it l.sect6 l.sect7))

@@ -2,7 +2,7 @@
 -- makes. The file is a list of octets, the reader an in-memory cursor, which is a place in it: a
 -- function that moves the cursor answers the new place last. Sums of a place in the file and a u32
 -- are not tested for overflow.
-use Rattle.std.specs.Prelude.{ℕ, zero, suc, ◌+◌, ◌-◌, not, List, ltb, eqb, length, get_or}
+use Rattle.std.specs.Prelude.{ℕ, zero, suc, ◌+◌, ◌-◌, not, List, ltb, eqb, length, get_or, Option, Some, None}
 use Rattle.octets.specs.Words.{pick}
 use Rattle.octets.specs.BigEndian.{be_at}
 use Rattle.framing.specs.Search.{says}
@@ -21,9 +21,6 @@ use Rattle.as_the_crate.specs.Std.{
   try,
   minus,
   plus,
-  Option,
-  some,
-  nothing,
   Cursor-read,
   Cursor-read_exact,
   Cursor-seek,
@@ -61,20 +58,20 @@ Sect0 = ℕ × ℕ × ℕ
 -- read_sect0, `for pos in 0..next_offset`: the first of `count` places of the buffer from `pos` on
 -- that says "GRIB". buf[k] is the file's octet at + k: the loop does not look behind those read
 unfoldable pub magic_among : ℕ → List ℕ → ℕ → ℕ → Option ℕ
-magic_among zero file at pos = nothing
+magic_among zero file at pos = None
 magic_among (suc count) file at pos =
     let later = magic_among count file at (pos + 1) in
-    pick (says file (at + pos) 71 82 73 66) (some pos) later
+    pick (says file (at + pos) 71 82 73 66) (Some pos) later
 
 -- read_sect0, a turn of its `loop` behind the `for`: "GRIB" was met, and section 0 is begun there;
 -- or it was not, and the loop goes on
 unfoldable pub in_block : Option ℕ → List ℕ → ℕ → ℕ → ℕ → (ℕ → ℕ → Result Sect0) → Result Sect0
-in_block (some pos) file at offset size again =
+in_block (Some pos) file at offset size again =
     begun (at + pos)
     (try (Cursor-seek (at + size) (pos + 16) size) λ at'.
     try (Indicator-from_slice file (at + pos)) λ total-length.
     gives (offset + pos, total-length, at'))
-in_block nothing file at offset size again =
+in_block None file at offset size again =
     let next-offset = size - 16 + 1 in
     try (Cursor-seek (at + size) next-offset size) λ at'.
     again at' (offset + next-offset)

@@ -59,11 +59,6 @@ minus a b more = pick (ltb a b) overflows (more (a - b))
 abbrev pub plus : {A : Type 0} → ℕ → ℕ → (ℕ → Result A) → Result A
 plus a b more = pick (ltb (a + b) 18446744073709551616) (more (a + b)) overflows
 
--- std enum Option, where it is a value
-pub data Option (A : Type 0) : Type 0 where
-  some : A → Option A
-  nothing : Option A
-
 -- std Cursor::read into a buffer of so many octets, at a place that may lie past the end of file:
 -- how many octets are read
 unfoldable pub Cursor-read : List ℕ → ℕ → ℕ → ℕ

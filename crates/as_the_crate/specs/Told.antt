@@ -1,22 +1,16 @@
 -- What the crate grib 0.20.2 tells of a file, and the same in this library's words: a section, a
 -- submessage's line, how many messages are closed, an outcome.
-use Rattle.std.specs.Prelude.{ℕ, ◌+◌, ◌*◌, List, [], ◌∷◌, map, eqb, length, get_or}
+use Rattle.std.specs.Prelude.{ℕ, ◌+◌, ◌*◌, List, [], ◌∷◌, map, eqb, length, get_or, Option, Some, None, Ok, Err}
 use Rattle.octets.specs.Words.{pick}
 use Rattle.octets.specs.BigEndian.{be_at}
 use Rattle.framing.specs.declared.read.Section.{Section}
 use Rattle.framing.specs.declared.read.Fault.{Fault}
 use Rattle.framing.specs.declared.read.Fault.TheVariants as fault
 use Rattle.index.specs.Lines.{place, span}
-use Rattle.index.specs.declared.line.LocalUsePlace.{LocalUsePlace}
-use Rattle.index.specs.declared.line.LocalUsePlace.TheVariants.{At, Absent}
-use Rattle.index.specs.declared.line.MessageEnd.{MessageEnd}
-use Rattle.index.specs.declared.line.MessageEnd.TheVariants.{GoesOn, ClosedAt}
 use Rattle.index.specs.declared.line.Span.{Span}
 use Rattle.index.specs.declared.line.Line.{Line}
 use Rattle.index.specs.declared.refusal.Refusal.{Refusal}
 use Rattle.index.specs.declared.refusal.Refusal.TheVariants as refusal
-use Rattle.index.specs.declared.refusal.Outcome.{Outcome}
-use Rattle.index.specs.declared.refusal.Outcome.TheVariants as outcome
 use Rattle.index.specs.Walk.{Told}
 use Rattle.as_the_crate.specs.Std.{
   ParseError,
@@ -29,9 +23,6 @@ use Rattle.as_the_crate.specs.Std.{
   InvalidSectionOrder,
   NoGridDefinition,
   Dropped,
-  Option,
-  some,
-  nothing,
   SectionInfo,
   info,
 }
@@ -51,6 +42,8 @@ use Rattle.as_the_crate.specs.Parser.{
   Collected,
   collected,
 }
+use Rattle.order.specs.declared.Place.{Place}
+use Rattle.index.specs.Outcome.{Outcome, refused_there}
 
 -- one of the crate's two streams of submessages over its Grib2SectionStream, on a file: two turns
 -- a section, and no file has more sections than octets
@@ -72,13 +65,13 @@ abbrev pub section_in : SectionInfo → Section
 section_in s = record { number = s.num; offset = record { 0 = s.offset }; length = s.size }
 
 -- whether there is a section 2, and where
-abbrev pub local_in : Option ℕ → LocalUsePlace
-local_in (some pos) = At (place pos)
-local_in nothing = Absent
+abbrev pub local_in : Option ℕ → Option Place
+local_in (Some pos) = Some (place pos)
+local_in None = None
 
 -- what stands behind it: place 0 in the ninth position is the crate's word for a message that goes on
-abbrev pub end_in : ℕ → MessageEnd
-end_in pos = pick (eqb pos 0) GoesOn (ClosedAt (place pos))
+abbrev pub end_in : ℕ → Option Place
+end_in pos = pick (eqb pos 0) None (Some (place pos))
 
 -- where its message stands: the offset of this section 0, and the total_length that the crate's
 -- Indicator::from_slice reads there
@@ -110,7 +103,7 @@ closed_in (s ∷ more) = pick (eqb s.num 8) 1 0 + closed_in more
 
 -- why, where (place) and at which offset
 abbrev pub refused_in : Refusal → ℕ → ℕ → Outcome
-refused_in why at offset = outcome.Refused why (place at) (record { 0 = offset })
+refused_in why at offset = Err (refused_there why (place at) (record { 0 = offset }))
 
 -- a section that can't be read: the crate tells neither place nor offset. The place is the count of
 -- sections that passed, the offset is where it began
@@ -140,7 +133,7 @@ error_in missing passed (NoGridDefinition pos) dropped =
 -- an end. An overflow, and no end, are no outcome: in their stead stands 1, which is told of no
 -- file of at most 2^40 octets
 abbrev pub outcome_in : ℕ → List SectionInfo → Finish → Outcome
-outcome_in missing passed clean = outcome.Clean
+outcome_in missing passed clean = Ok tt
 outcome_in missing passed (fails e dropped) = error_in missing passed e dropped
 outcome_in missing passed overflow = refused_in refusal.FileTooLong 0 0
 outcome_in missing passed unended = refused_in refusal.FileTooLong 0 0

@@ -1,6 +1,6 @@
 -- That the crate's writer (Encoder.antt) and ours write the same octets (01, "The writer"), and
 -- what the crate writes that 01 refuses.
-use Rattle.std.specs.Prelude.{ℕ, ◌≤◌, ◌≡◌, ltb, length, drop, replicate}
+use Rattle.std.specs.Prelude.{ℕ, ◌≤◌, ◌≡◌, ltb, length, drop, replicate, Result, Ok, Err}
 use mathlib.Core.List.{List, [], ◌∷◌, ◌++◌, map, flat_map}
 use Rattle.std.proofs.Math.Option.{Option, none, some}
 use Rattle.octets.specs.Words.{pick}
@@ -9,12 +9,10 @@ use Rattle.index.specs.Bounds.{most_octets}
 use Rattle.writer.specs.Plan.{Part, plan_place, parts_of, total_of, judged_plan}
 use Rattle.writer.specs.Message.{message_octets}
 use Rattle.writer.specs.Write.{write_of}
-use Rattle.writer.specs.declared.Written.{Written}
-use Rattle.writer.specs.declared.Written.TheVariants.{Whole, NotOneMessage, PayloadSize, NoRoom}
 use Rattle.round_trip.specs.ReadBack.{part_of}
 use Rattle.round_trip.specs.Faults.{AtNone, OneMessage, Outside}
+use Rattle.as_the_encoder.specs.Encoder as crate
 use Rattle.as_the_encoder.specs.Encoder.{
-  Ok,
   TooSmall,
   usize,
   having,
@@ -25,6 +23,8 @@ use Rattle.as_the_encoder.specs.Encoder.{
   Grib2Message-write,
   reference,
 }
+use Rattle.writer.specs.declared.WriteRefusal.TheVariants.{NotOneMessage, PayloadSize, NoRoom}
+use Rattle.writer.specs.declared.WriteRefusal.{WriteRefusal}
 
 -- the sections of each level of a nested message, in a row: number and payload of each
 unfoldable pub flattened_l3 : IterL3 → List (ℕ × List ℕ)
@@ -62,7 +62,7 @@ abbrev pub WritesAsTheRust : Type 0
 WritesAsTheRust =
     (m : Grib2Message) (plan store dest : List ℕ) (total : ℕ) → IsPlanOf plan store m
     → let wrote = write_of m.discipline m.reserved₁ m.reserved₂ plan store dest in
-    wrote.answer ≡ Whole total → Grib2Message-write m dest ≡ Ok total wrote.dest
+    wrote.answer ≡ Ok total → Grib2Message-write m dest ≡ crate.Ok total wrote.dest
 
 -- where ours has no room for a message of at most 2^40 octets, the crate answers "destination
 -- buffer is too small"; both leave the destination as it was
@@ -70,7 +70,7 @@ abbrev pub TooSmallAsTheRust : Type 0
 TooSmallAsTheRust =
     (m : Grib2Message) (plan store dest : List ℕ) → IsPlanOf plan store m
     → let wrote = write_of m.discipline m.reserved₁ m.reserved₂ plan store dest in
-    wrote.answer ≡ NoRoom → total_of (parts_of plan) ≤ most_octets
+    wrote.answer ≡ Err NoRoom → total_of (parts_of plan) ≤ most_octets
     → (Grib2Message-write m dest ≡ TooSmall dest) × (wrote.dest ≡ dest)
 
 -- a plan that is one message, and so every plan that ours accepts, is one of a nested message, with
@@ -98,7 +98,7 @@ FramesWhateverIsNested =
     → Grib2Message-write m dest
     ≡ having (usize (total_of (parts_of plan))) λ total.
     pick (ltb (length dest) total) (TooSmall dest)
-    (Ok total
+    (crate.Ok total
     (message_octets m.discipline m.reserved₁ m.reserved₂ (parts_of plan) store
     ++ drop total dest))
 
@@ -108,7 +108,7 @@ abbrev pub ReferenceLosesReserved : Type 0
 ReferenceLosesReserved =
     (m : Grib2Message) (plan store dest : List ℕ) (total : ℕ) → IsPlanOf plan store m
     → let wrote = write_of m.discipline 255 255 plan store dest in
-    wrote.answer ≡ Whole total → Grib2Message-write (reference m) dest ≡ Ok total wrote.dest
+    wrote.answer ≡ Ok total → Grib2Message-write (reference m) dest ≡ crate.Ok total wrote.dest
 
 -- a message with an empty section 1
 abbrev pub unidentified : List IterL1 → Grib2Message
@@ -117,11 +117,12 @@ unidentified iter =
 
 -- of a plan with empty payloads: its message, what 01 answers, and what the crate writes into a
 -- destination of as many octets
-pub record Differs (plan : List ℕ) (m : Grib2Message) (why : Written) (octets : List ℕ)
-    : Type 0 where
+pub record Differs (plan : List ℕ) (m : Grib2Message) (why : Result ℕ WriteRefusal)
+    (octets : List ℕ) : Type 0 where
   pub planned : IsPlanOf plan [] m
   pub refused : judged_plan (parts_of plan) 0 (length octets) ≡ why
-  pub framed : Grib2Message-write m (replicate (length octets) 165) ≡ Ok (length octets) octets
+  pub framed : Grib2Message-write m (replicate (length octets) 165)
+      ≡ crate.Ok (length octets) octets
 
 -- section 0 with its total length, where that is one octet; sections with an empty payload
 abbrev pub start_of : ℕ → List ℕ
@@ -134,12 +135,12 @@ empty_section number = 0 ∷ 0 ∷ 0 ∷ 5 ∷ number ∷ []
 -- the smallest of what the crate frames and 01 refuses
 pub record FramesWhat01Refuses : Type 0 where
   -- 16: nothing after section 1
-  pub no_grid : Differs (1 ∷ 0 ∷ 0 ∷ []) (unidentified []) (NotOneMessage (plan_place 1))
+  pub no_grid : Differs (1 ∷ 0 ∷ 0 ∷ []) (unidentified []) (Err (NotOneMessage (plan_place 1)))
       (start_of 25 ++ empty_section 1 ++ end_mark)
   -- 16: no grid after section 2
   pub no_grid_after_2 : Differs (1 ∷ 0 ∷ 0 ∷ 2 ∷ 0 ∷ 0 ∷ [])
       (unidentified (record { section2 = some []; iter = [] } ∷ []))
-      (NotOneMessage (plan_place 2))
+      (Err (NotOneMessage (plan_place 2)))
       (start_of 30 ++ empty_section 1 ++ empty_section 2 ++ end_mark)
   -- 16: no product after section 3
   pub no_product : Differs (1 ∷ 0 ∷ 0 ∷ 3 ∷ 0 ∷ 0 ∷ [])
@@ -147,7 +148,7 @@ pub record FramesWhat01Refuses : Type 0 where
         section2 = none;
         iter = record { section3 = []; iter = [] } ∷ [];
       } ∷ []))
-      (NotOneMessage (plan_place 2))
+      (Err (NotOneMessage (plan_place 2)))
       (start_of 30 ++ empty_section 1 ++ empty_section 3 ++ end_mark)
   -- 18: payloads under their least
   pub under_least : Differs
@@ -164,6 +165,6 @@ pub record FramesWhat01Refuses : Type 0 where
                   } ∷ [];
             } ∷ [];
       } ∷ []))
-      (PayloadSize (plan_place 0))
+      (Err (PayloadSize (plan_place 0)))
       (start_of 50 ++ empty_section 1 ++ empty_section 3 ++ empty_section 4 ++ empty_section 5
       ++ empty_section 6 ++ empty_section 7 ++ end_mark)

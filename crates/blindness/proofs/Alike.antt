@@ -1,4 +1,5 @@
 -- Two files of one length: their listings are equal where no octet that is read differs, and what both have of each section.
+use Rattle.std.specs.Prelude.{Some, None}
 use Prim.Native.Nat.{ℕ, zero, suc, ◌+◌, ◌-◌, ◌≤◌, ◌<◌}
 use native.Mathlib.Omega.{arith}
 use mathlib.Core.Path.{◌≡◌, refl, sym, ap, subst, ◌∙◌}
@@ -10,7 +11,6 @@ use borrow.Author.Tests.{ltb-true, ltb-false}
 use Rattle.framing.specs.Search.{starts_at, IsNextStart, next_start}
 use Rattle.framing.specs.Framing.{message_at, read_at}
 use Rattle.framing.specs.Listing.{Listing, over, before, listed_by, listing_from}
-use Rattle.framing.specs.declared.search.Found.TheVariants.{At, Nowhere}
 use Rattle.framing.specs.declared.read.Section.{Section as Row}
 use Rattle.framing.specs.declared.read.Cursor.{Cursor}
 use Rattle.framing.specs.Read.{Read}
@@ -53,7 +53,9 @@ not_so false h = refl
 no_start : {f : List ℕ} {at rest : ℕ} {s : Row} {next : Cursor} → Reads f at rest (Section s next) → (k : ℕ) → at ≤ k → k < s.offset.0
     → starts_at f k ≡ true → ⊥
 no_start {f} {at} {rest} {s} (opens G o) k a b there =
-    let first : IsNextStart f at (At s.offset.0) = subst (IsNextStart f at) o.found (next_start_first f at) in first.2 k b a there
+    let first : IsNextStart f at (Some s.offset.0) =
+    subst (IsNextStart f at) o.found (next_start_first f at) in
+    first.2 k b a there
 no_start (closes G o) k a b there = omega arith
 no_start (heads G o) k a b there = omega arith
 
@@ -129,7 +131,8 @@ module _ (terms : Terms) (spared : Spared terms) (f g : List ℕ) (same : length
 
         message : rest ≡ 0 → message_at f (next_start f at) ≡ message_at g (next_start g at)
         message _ =
-            message_agree f g at (At p) o.found (next_agree f g at (At p) o.found starts) (indicator_agree f g same p total)
+            message_agree f g at (Some p) o.found (next_agree f g at (Some p) o.found starts)
+            (indicator_agree f g same p total)
     read_same (closes G o) h z =
         read_agree f g same at rest (λ e. absurd (omega arith))
         (λ _. end_agree f g same at (λ k a b.
@@ -203,9 +206,10 @@ module _ (terms : Terms) (spared : Spared terms) (f g : List ℕ) (same : length
           let free : (k : ℕ) → at ≤ k → starts_at f k ≡ true → ⊥ = subst (IsNextStart f at) none (next_start_first f at) in
           let zeros : (k : ℕ) → at ≤ k → get_or g k 0 ≡ 0 =
           λ k a. let x : in_span at rest k ≡ false = rw between (span_past at 0 k (omega arith)) in blank' k a (or_neither x refl) in
-          let next = next_agree f g at Nowhere none (λ k a _. start_none k a (free k a) (zeros k a)) in
+          let next = next_agree f g at None none (λ k a _. start_none k a (free k a) (zeros k a)) in
           let r =
-          read_agree f g same at rest (λ _. message_agree f g at Nowhere none next refl) (λ z. absurd (omega arith))
+          read_agree f g same at rest (λ _. message_agree f g at None none next refl)
+          (λ z. absurd (omega arith))
           (λ z. absurd (z between)) in
           rw (← r, e)
       go Over e (over_within within past) done' keep' blank' ih = rw (read_over g at rest within (omega arith))

@@ -1,4 +1,5 @@
 -- Two files of one length: what is read alike of both, where the octets that a read looks at are equal.
+use Rattle.std.specs.Prelude.{Option, Some, None}
 use Prim.Native.Nat.{ℕ, zero, suc, ◌+◌, ◌≤◌, ◌<◌}
 use native.Mathlib.Omega.{arith}
 use native.Mathlib.Nat.{le_refl}
@@ -12,8 +13,6 @@ use Rattle.octets.specs.Words.{pick}
 use Rattle.octets.specs.BigEndian.{be_at}
 use Rattle.framing.specs.Search.{says, starts_at, IsNextStart, next_start}
 use Rattle.framing.specs.Framing.{indicator_at, end_at, header_at, message_at, read_at}
-use Rattle.framing.specs.declared.search.Found.{Found}
-use Rattle.framing.specs.declared.search.Found.TheVariants.{At, Nowhere}
 use Rattle.framing.specs.Read.{Over}
 use Rattle.framing.proofs.NextStart.{next_start_first, next_start_is}
 use Rattle.blindness.proofs.Spared.{and_right}
@@ -34,9 +33,9 @@ every_octet f g same k h = go (ltb k (length f)) refl
         get_or-eq_default f 0 past ∙ sym (get_or-eq_default g 0 (omega arith))
 
 -- the places that a search looks at
-abbrev pub UpTo : Found → ℕ → Type 0
-UpTo (At p) k = k ≤ p
-UpTo Nowhere k = Unit
+abbrev pub UpTo : Option ℕ → ℕ → Type 0
+UpTo (Some p) k = k ≤ p
+UpTo None k = Unit
 
 -- a 0 starts no message
 pub zero_starts : (f : List ℕ) (p : ℕ) → get_or f p 0 ≡ 0 → starts_at f p ≡ false
@@ -67,19 +66,22 @@ module _ (f g : List ℕ) where
       rw (h at (omega arith) (omega arith), o 1 (omega arith), o 2 (omega arith), o 3 (omega arith))
 
   -- where the search ends in f it ends in g, if messages start alike up to there
-  next_alike : (at : ℕ) (found : Found) → IsNextStart f at found → ((k : ℕ) → at ≤ k → UpTo found k → starts_at f k ≡ starts_at g k)
+  next_alike : (at : ℕ) (found : Option ℕ) → IsNextStart f at found
+      → ((k : ℕ) → at ≤ k → UpTo found k → starts_at f k ≡ starts_at g k)
       → IsNextStart g at found
-  next_alike at (At p) (from, there, none) h =
+  next_alike at (Some p) (from, there, none) h =
       (from, sym (h p from (le_refl p)) ∙ there, λ k below from' there'. none k below from' (h k from' (omega arith) ∙ there'))
-  next_alike at Nowhere none h = λ k from there. none k from (h k from tt ∙ there)
+  next_alike at None none h = λ k from there. none k from (h k from tt ∙ there)
 
-  pub next_agree : (at : ℕ) (found : Found) → next_start f at ≡ found → ((k : ℕ) → at ≤ k → UpTo found k → starts_at f k ≡ starts_at g k)
+  pub next_agree : (at : ℕ) (found : Option ℕ) → next_start f at ≡ found
+      → ((k : ℕ) → at ≤ k → UpTo found k → starts_at f k ≡ starts_at g k)
       → next_start g at ≡ found
   next_agree at found e h =
       sym (next_start_is g at found (next_alike at found (subst (IsNextStart f at) e (next_start_first f at)) h))
 
   -- a message that starts at one place in both
-  pub message_agree : (at : ℕ) (found : Found) → next_start f at ≡ found → next_start g at ≡ found → message_at f found ≡ message_at g found
+  pub message_agree : (at : ℕ) (found : Option ℕ) → next_start f at ≡ found → next_start g at ≡ found
+      → message_at f found ≡ message_at g found
       → message_at f (next_start f at) ≡ message_at g (next_start g at)
   message_agree at found e e' h = rw (e, e') h
 
@@ -124,6 +126,7 @@ module _ (f g : List ℕ) where
         (λ _. end_agree at (λ k a b. h k a))
         (λ _ _. header_agree at rest (λ k a b. h k a))
       where
-        message : (found : Found) → IsNextStart f at found → message_at f found ≡ message_at g found
-        message (At p) (from, there, none) = indicator_agree p (λ k a b. h k (omega arith))
-        message Nowhere none = refl
+        message : (found : Option ℕ) → IsNextStart f at found
+            → message_at f found ≡ message_at g found
+        message (Some p) (from, there, none) = indicator_agree p (λ k a b. h k (omega arith))
+        message None none = refl

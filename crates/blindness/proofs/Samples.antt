@@ -1,4 +1,5 @@
 -- The samples: walks and copies by computation, and a computed test that two files are alike.
+use Rattle.std.specs.Prelude.{Option, Some, None, Ok, Err}
 use Prim.Native.Nat.{ℕ, zero, suc, ◌+◌}
 use native.Mathlib.Nat.{add-zero, zero-add}
 use native.Mathlib.Omega.{arith}
@@ -13,17 +14,11 @@ use Rattle.octets.specs.BigEndian.{be_at}
 use Rattle.sections.specs.Kinds.{kinds, kind_of, least_payload_of, values_of}
 use Rattle.sections.specs.BitMap.{bit_map_of}
 use Rattle.sections.specs.ReprDefinition.{repr_definition_of}
-use Rattle.sections.specs.declared.repr_definition.MaybeReprDefinition.{MaybeReprDefinition}
-use Rattle.sections.specs.declared.repr_definition.MaybeReprDefinition.TheVariants as representation
-use Rattle.sections.specs.declared.bit_map.MaybeBitMap.{MaybeBitMap}
-use Rattle.sections.specs.declared.bit_map.MaybeBitMap.TheVariants as bits
 use Rattle.framing.specs.Search.{says, starts_at, start_among, next_start}
 use Rattle.framing.specs.Framing.{indicator_at, end_at, is_cut, payload_at, header_at, message_at, read_at}
 use Rattle.framing.specs.Listing.{Listing, listing_from, listing}
 use Rattle.order.specs.Order.{judged, completes, is_between}
 use Rattle.index.specs.Lines.{in_force}
-use Rattle.index.specs.declared.refusal.Outcome.{Outcome}
-use Rattle.index.specs.declared.refusal.Outcome.TheVariants.{Clean, Refused}
 use Rattle.index.specs.Bounds.{unlimited}
 use Rattle.index.specs.Walk.{Told, fitted, closing, by_order, judgement, concluded, walked_from, walked}
 use Rattle.publish.specs.Values.{Terms, in_stretch, in_span, carries, licensed, is_value, in_message}
@@ -32,6 +27,9 @@ use Rattle.blindness.specs.Looks.{changed}
 use Rattle.index.specs.Decoded.{own_octets, payload_of, SectionFields, of_indicator, of_identification, of_grid, of_product, of_representation, of_bit_map, of_none, fields_of, decoded}
 use Rattle.blindness.specs.Agree.{Agree}
 use Rattle.blindness.specs.Samples.{sample_of, sample, SamplesAlike, NothingLess}
+use Rattle.sections.specs.declared.repr_definition.ReprDefinition.{ReprDefinition}
+use Rattle.sections.specs.declared.bit_map.BitMap.{BitMap}
+use Rattle.index.specs.Outcome.{Outcome}
 
 -- two lists of one length, equal at every index where a test fails
 unfoldable pub differ_only : (ℕ → Bool) → ℕ → List ℕ → List ℕ → Bool
@@ -75,13 +73,13 @@ agree_of terms f g e =
     }
 
 -- a template number, a bit-map indicator, 0 of other fields
-abbrev template_in : MaybeReprDefinition → ℕ
-template_in (representation.Fields r) = r.template
-template_in representation.NoReprDefinition = 0
+abbrev template_in : Option ReprDefinition → ℕ
+template_in (Some r) = r.template
+template_in None = 0
 
-abbrev indicator_in : MaybeBitMap → ℕ
-indicator_in (bits.Fields b) = b.indicator
-indicator_in bits.NoBitMap = 0
+abbrev indicator_in : Option BitMap → ℕ
+indicator_in (Some b) = b.indicator
+indicator_in None = 0
 
 abbrev number_in : SectionFields → ℕ
 number_in (of_representation r) = template_in r
@@ -94,8 +92,8 @@ number_in of_none = 0
 
 -- 0 of a clean end
 abbrev ended : Outcome → ℕ
-ended Clean = 0
-ended (Refused why place offset) = 1
+ended (Ok tt) = 0
+ended (Err stop) = 1
 
 pub samples_alike : SamplesAlike
 unfolding sample_of walked walked_from concluded judgement by_order fitted closing judged completes is_between in_force

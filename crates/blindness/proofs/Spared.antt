@@ -1,4 +1,5 @@
 -- What the test tells of terms: which octets of which sections are no values.
+use Rattle.std.specs.Prelude.{Option}
 use Prim.Native.Nat.{ℕ, zero, suc, ◌+◌, ◌≤◌}
 use native.Mathlib.Omega.{arith}
 use mathlib.Core.Path.{◌≡◌, refl}
@@ -7,11 +8,11 @@ use mathlib.Core.List.{List, [], ◌∷◌}
 use lib.Dec.{leb, ltb, eqb}
 use borrow.Author.Tests.{ltb-true, leb-true, eqb-true, lt-leb, le-leb}
 use Rattle.sections.specs.Kinds.{values_of, values_in, kind_of, kinds}
-use Rattle.sections.specs.declared.kinds.MaybeKind.{MaybeKind}
 use Rattle.framing.proofs.Tests.{by_test, and_both, and_of}
 use Rattle.publish.specs.Values.{Stretch, nowhere, onward, within, Terms, stretch_of, licensed, in_stretch}
 use Rattle.blindness.specs.Looks.{Look, framing_looks, decoder_looks, apart, spare, is_blind, changed, four_stretches, six_stretches}
 use Rattle.blindness.specs.Blindness.{LicensedAreFour, TermsPass, OneMoreFails}
+use Rattle.sections.specs.declared.kinds.Kind.{Kind}
 
 -- of all of a list
 abbrev pub Each : {A : Type 0} → (A → Type 0) → List A → Type 0
@@ -152,7 +153,7 @@ licensed_are_four number =
     by_test P (eqb number 8) (λ e. is 8 e refl) λ e8.
     other e2 e5 e6 e7
   where
-    P : MaybeKind → Type 0
+    P : Option Kind → Type 0
     P kind = stretch_of (values_in kind) ≡ four_stretches number
 
     is : {stretch : Stretch} (n : ℕ) → eqb number n ≡ true → stretch ≡ four_stretches n → stretch ≡ four_stretches number

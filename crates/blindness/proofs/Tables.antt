@@ -1,4 +1,5 @@
 -- A walk that ends clean with some room is the walk with room for all: no file has as many sections.
+use Rattle.std.specs.Prelude.{None, Ok}
 use Prim.Native.Nat.{ℕ, zero, suc, ◌+◌, ◌*◌, ◌≤◌, ◌<◌}
 use native.Mathlib.Omega.{arith}
 use mathlib.Core.Path.{◌≡◌, refl}
@@ -19,10 +20,8 @@ use Rattle.framing.specs.Read.{Read}
 use Rattle.framing.specs.Read.{Section, Over, Refused}
 use Rattle.framing.proofs.Tests.{by_test}
 use Rattle.index.specs.Lines.{line_of}
-use Rattle.index.specs.declared.line.MessageEnd.TheVariants.{GoesOn}
 use Rattle.index.specs.declared.line.Line.{Line}
 use Rattle.index.specs.declared.refusal.Refusal.TheVariants as refusal
-use Rattle.index.specs.declared.refusal.Outcome.TheVariants.{Clean}
 use Rattle.index.specs.Bounds.{unlimited}
 use Rattle.index.specs.declared.bounds.Room.{Room}
 use Rattle.index.specs.Walk.{
@@ -90,7 +89,7 @@ module _ (room : Room) (s : Row) where
       (free_order r [] (judged r.order s.number) a (omega arith)))
     where
       line : List Line
-      line = line_of r.force GoesOn ∷ []
+      line = line_of r.force None ∷ []
 
       here : Judgement
       here = by_order (judged SubmessageStart s.number) room (gone_on r) s line
@@ -103,7 +102,8 @@ module _ (room : Room) (s : Row) where
 
 module _ (room : Room) where
   free_from : (r : Reached) (sections : List Row) (ending : Ending) → r.sections + length sections < unlimited.rows
-      → r.lines + 2 * length sections < unlimited.lines → (walked_from room r sections ending).outcome ≡ Clean
+      → r.lines + 2 * length sections < unlimited.lines
+      → (walked_from room r sections ending).outcome ≡ Ok tt
       → walked_from room r sections ending ≡ walked_from unlimited r sections ending
   unfolding walked_from
   free_from r [] ending a b h = refl
@@ -112,9 +112,9 @@ module _ (room : Room) where
       (λ reached. free_from reached more ending)
     where
       go : (j j' : Judgement) → Freed (r.sections + 1) (r.lines + 2) j j'
-          → (followed r s j (λ reached. walked_from room reached more ending)).outcome ≡ Clean
+          → (followed r s j (λ reached. walked_from room reached more ending)).outcome ≡ Ok tt
           → ((reached : Reached) → reached.sections + length more < unlimited.rows → reached.lines + 2 * length more < unlimited.lines
-          → (walked_from room reached more ending).outcome ≡ Clean
+          → (walked_from room reached more ending).outcome ≡ Ok tt
           → walked_from room reached more ending ≡ walked_from unlimited reached more ending)
           → followed r s j (λ reached. walked_from room reached more ending)
           ≡ followed r s j' (λ reached. walked_from unlimited reached more ending)
@@ -141,7 +141,8 @@ few f = listed_few f (length f + 1) 0 0
 pub clean_needs_no_more : CleanNeedsNoMore
 unfolding walked
 clean_needs_no_more room f =
-    by_both (λ (a b : Told). a.outcome ≡ Clean → a ≡ b) (ltb 1099511627776 (length f)) (λ _ h. refl) λ e.
+    by_both (λ (a b : Told). a.outcome ≡ Ok tt → a ≡ b) (ltb 1099511627776 (length f)) (λ _ h. refl)
+    λ e.
     let small = ltb-false 1099511627776 (length f) e in
     let count = few f in
     free_from room (at_start f) (listing f).sections (listing f).ending (omega arith) (omega arith)

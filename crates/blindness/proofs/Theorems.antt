@@ -1,5 +1,6 @@
 -- Demand 3, the whole: two files that differ in values octets only are one to every reader, and a public copy is as good as its file.
 --
+use Rattle.std.specs.Prelude.{Ok, Err}
 use Prim.Native.Nat.{ℕ, ◌+◌}
 use native.Mathlib.Omega.{arith}
 use mathlib.Core.Path.{◌≡◌, refl, sym, ap, ◌∙◌}
@@ -14,8 +15,6 @@ use Rattle.framing.specs.Listing.{listing}
 use Rattle.framing.specs.declared.read.Section.{Section}
 use Rattle.framing.proofs.Tests.{and_both}
 use Rattle.index.specs.declared.line.Line.{Line}
-use Rattle.index.specs.declared.refusal.Outcome.{Outcome}
-use Rattle.index.specs.declared.refusal.Outcome.TheVariants.{Clean, Refused}
 use Rattle.index.specs.Bounds.{unlimited}
 use Rattle.index.specs.declared.bounds.Room.{Room}
 use Rattle.index.specs.Walk.{Told, walked}
@@ -35,6 +34,7 @@ use Rattle.blindness.proofs.Alike.{blind_from, copy_from, Seen, seen_from}
 use Rattle.blindness.proofs.Fields.{spans_same, decoded_same, messages_same}
 use Rattle.blindness.proofs.Walks.{fewer, fewer_values, clean_walk, walked_same}
 use Rattle.blindness.proofs.Copies.{length_copy, octet_copy, copy_keeps, copy_zeros, copy_blanks}
+use Rattle.index.specs.Outcome.{Outcome}
 
 -- neither a values octet stays, nor one outside every message
 value_goes : (terms : Terms) (f : List ℕ) (k : ℕ) → is_value terms (walked unlimited f).sections k ≡ true
@@ -102,7 +102,7 @@ module _ (terms : Terms) (passed : is_blind terms ≡ true) where
         let m = messages_same terms (spared terms passed) f g same (walked unlimited f).sections listed k in
         rw (← one_walk unlimited, m)
 
-    same_copy : (walked unlimited f).outcome ≡ Clean → public_copy terms f ≡ public_copy terms g
+    same_copy : (walked unlimited f).outcome ≡ Ok tt → public_copy terms f ≡ public_copy terms g
     unfolding stays
     same_copy clean =
         ext_get_or 0 (public_copy terms f) (public_copy terms g) (length_copy terms f ∙ same ∙ sym (length_copy terms g)) (λ k _. octet k)
@@ -120,8 +120,8 @@ module _ (terms : Terms) (passed : is_blind terms ≡ true) where
 
     same_outcome : (dest : List ℕ) (o : Outcome) → (walked unlimited f).outcome ≡ o → by_outcome o terms f dest ≡ by_outcome o terms g dest
     unfolding by_outcome
-    same_outcome dest Clean e = rw (same, same_copy e)
-    same_outcome dest (Refused why place offset) e = refl
+    same_outcome dest (Ok tt) e = rw (same, same_copy e)
+    same_outcome dest (Err stop) e = refl
 
     same_call : (dest : List ℕ) → copy_of terms f dest ≡ copy_of terms g dest
     unfolding copy_of
@@ -145,7 +145,7 @@ module _ (terms : Terms) (passed : is_blind terms ≡ true) where
         }
 
   -- a file that walks clean, and its copy
-  module _ (f : List ℕ) (clean : (walked unlimited f).outcome ≡ Clean) where
+  module _ (f : List ℕ) (clean : (walked unlimited f).outcome ≡ Ok tt) where
     abbrev copy : List ℕ
     copy = public_copy terms f
 

@@ -1,5 +1,6 @@
 -- From a listing to a walk: a walk lists the listing's first sections, and all of them where it ends clean; two files with one listing, whose
 -- sections 0 say the same, have one walk.
+use Rattle.std.specs.Prelude.{None, Ok, Err}
 use Prim.Native.Nat.{ℕ, ◌+◌}
 use mathlib.Core.Path.{◌≡◌, refl, sym, ap, subst, ◌∙◌}
 use mathlib.Core.Bool.{false}
@@ -16,12 +17,9 @@ use Rattle.order.specs.declared.Order.TheVariants.{SubmessageStart}
 use Rattle.order.specs.declared.Judged.{Judged}
 use Rattle.order.specs.declared.Judged.TheVariants as says
 use Rattle.index.specs.Lines.{place, with_span, in_force, line_of}
-use Rattle.index.specs.declared.line.MessageEnd.TheVariants.{GoesOn}
 use Rattle.index.specs.declared.line.Span.{Span}
 use Rattle.index.specs.declared.line.Line.{Line}
 use Rattle.index.specs.declared.refusal.Refusal.TheVariants.{FileTooLong}
-use Rattle.index.specs.declared.refusal.Outcome.{Outcome}
-use Rattle.index.specs.declared.refusal.Outcome.TheVariants.{Clean, Refused}
 use Rattle.index.specs.declared.bounds.Room.{Room}
 use Rattle.index.specs.Walk.{
   Reached,
@@ -47,13 +45,14 @@ use Rattle.standing.proofs.Lent.{by_test_2}
 use Rattle.publish.specs.Values.{Terms, carries, is_value}
 use Rattle.blindness.proofs.Spared.{Each}
 use Rattle.blindness.proofs.Listed.{or_neither as or-none}
+use Rattle.index.specs.Outcome.{Outcome, refused_there}
 
 -- a clean end is no refusal
 abbrev pub IsClean : Outcome → Type 0
-IsClean Clean = Unit
-IsClean (Refused why place offset) = ⊥
+IsClean (Ok tt) = Unit
+IsClean (Err stop) = ⊥
 
-pub is_clean : {o : Outcome} → o ≡ Clean → IsClean o
+pub is_clean : {o : Outcome} → o ≡ Ok tt → IsClean o
 is_clean e = subst IsClean (sym e) tt
 
 -- what holds of all sections of a list holds of all that a walk down it lists
@@ -94,25 +93,29 @@ module _ (terms : Terms) (k : ℕ) where
 
 -- a clean walk lists all, and the input is over behind it
 module _ (room : Room) where
-  all_from : (r : Reached) (sections : List Section) (ending : Ending) → (walked_from room r sections ending).outcome ≡ Clean
+  all_from : (r : Reached) (sections : List Section) (ending : Ending)
+      → (walked_from room r sections ending).outcome ≡ Ok tt
       → ((walked_from room r sections ending).sections ≡ sections) × (ending ≡ over)
   unfolding walked_from concluded
   all_from r [] over h = (refl, refl)
   all_from r [] (unreadable fault offset) h = absurd (is_clean h)
   all_from r (s ∷ more) ending h = go (judgement room r s) h (λ reached. all_from reached more ending)
     where
-      go : (j : Judgement) → (followed r s j (λ reached. walked_from room reached more ending)).outcome ≡ Clean
-          → ((reached : Reached) → (walked_from room reached more ending).outcome ≡ Clean
+      go : (j : Judgement)
+          → (followed r s j (λ reached. walked_from room reached more ending)).outcome ≡ Ok tt
+          → ((reached : Reached) → (walked_from room reached more ending).outcome ≡ Ok tt
           → ((walked_from room reached more ending).sections ≡ more) × (ending ≡ over))
           → ((followed r s j (λ reached. walked_from room reached more ending)).sections ≡ s ∷ more) × (ending ≡ over)
       go (stops lines why) h' ih = absurd (is_clean h')
       go (passes lines closed reached) h' ih = let p = ih reached h' in (ap (λ (m : List Section). s ∷ m) p.0, p.1)
 
-  pub clean_walk : (f : List ℕ) → (walked room f).outcome ≡ Clean
+  pub clean_walk : (f : List ℕ) → (walked room f).outcome ≡ Ok tt
       → ((walked room f).sections ≡ (listing f).sections) × ((listing f).ending ≡ over)
   unfolding walked
   clean_walk f =
-      by_test (λ (told : Told). told.outcome ≡ Clean → (told.sections ≡ (listing f).sections) × ((listing f).ending ≡ over))
+      by_test
+      (λ (told : Told). told.outcome ≡ Ok tt
+      → (told.sections ≡ (listing f).sections) × ((listing f).ending ≡ over))
       (ltb 1099511627776 (length f)) (λ _ h. absurd (is_clean h))
       (λ _. all_from (at_start f) (listing f).sections (listing f).ending)
 
@@ -173,7 +176,7 @@ module _ (room : Room) (f : List ℕ) where
         by_test_2 Same (completes r.order s.number)
         (λ on.
         by_test_2 Same (leb room.lines r.lines) (λ full. refl) λ free.
-        by_order_same (judged SubmessageStart s.number) (gone_on r) (line_of r.force GoesOn ∷ []))
+        by_order_same (judged SubmessageStart s.number) (gone_on r) (line_of r.force None ∷ []))
         λ off. by_order_same (judged r.order s.number) r []
 
   same_from : (g : List ℕ) (sections : List Section) (ending : Ending) → Each (SameSpan f g) sections → (r : Reached)
@@ -202,5 +205,6 @@ module _ (room : Room) (f : List ℕ) where
   walked_same g same e each =
       rw (← same, ← e)
       (ap
-      (λ (t : Told). pick (ltb 1099511627776 (length f)) (ends (Refused FileTooLong (place 0) (record { 0 = 0 }))) t)
+      (λ (t : Told). pick (ltb 1099511627776 (length f))
+      (ends (Err (refused_there FileTooLong (place 0) (record { 0 = 0 })))) t)
       (same_from g (listing f).sections (listing f).ending each (at_start f)))

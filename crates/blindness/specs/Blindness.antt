@@ -1,10 +1,9 @@
 -- Demand 3: nothing that is listed, told, decoded, written or copied depends on a values octet, and
 -- a public copy is as good as its file (01, "Values octets and the public copy"; 02, Ticket 1).
 -- Statements only: `proofs/Theorems.antt` has their proofs.
-use Rattle.std.specs.Prelude.{ℕ, ◌<◌, true, false, List, ◌≡◌, length, get_or}
+use Rattle.std.specs.Prelude.{ℕ, ◌<◌, true, false, List, ◌≡◌, length, get_or, Ok}
 use Rattle.framing.specs.Listing.{listing}
 use Rattle.index.specs.declared.line.Line.{Line}
-use Rattle.index.specs.declared.refusal.Outcome.TheVariants.{Clean}
 use Rattle.index.specs.Bounds.{unlimited}
 use Rattle.index.specs.declared.bounds.Room.{Room}
 use Rattle.index.specs.Walk.{walked}
@@ -25,7 +24,7 @@ pub record One (terms : Terms) (f g : List ℕ) : Type 0 where
   pub one_decoding : (room : Room)
       → decoded f (walked room f).sections ≡ decoded g (walked room g).sections
   pub one_inventory : (text : List ℕ) → inventory_of f text ≡ inventory_of g text
-  pub one_copy : (walked unlimited f).outcome ≡ Clean → public_copy terms f ≡ public_copy terms g
+  pub one_copy : (walked unlimited f).outcome ≡ Ok tt → public_copy terms f ≡ public_copy terms g
   pub one_call : (dest : List ℕ) → copy_of terms f dest ≡ copy_of terms g dest
 
 -- a copy is as good as its file; it has the file's octet wherever that is inside a message and no
@@ -62,12 +61,13 @@ LentBlindness =
 -- one holds of the other
 abbrev pub CleanNeedsNoMore : Type 0
 CleanNeedsNoMore =
-    (room : Room) (f : List ℕ) → (walked room f).outcome ≡ Clean → walked room f ≡ walked unlimited f
+    (room : Room) (f : List ℕ) → (walked room f).outcome ≡ Ok tt
+    → walked room f ≡ walked unlimited f
 
 -- the public copy of a file that walks clean
 abbrev pub PublicCopies : Type 0
 PublicCopies =
-    (terms : Terms) → is_blind terms ≡ true → (f : List ℕ) → (walked unlimited f).outcome ≡ Clean
+    (terms : Terms) → is_blind terms ≡ true → (f : List ℕ) → (walked unlimited f).outcome ≡ Ok tt
     → Public terms f (public_copy terms f)
 
 -- document 01's terms are its four stretches

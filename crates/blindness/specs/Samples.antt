@@ -1,8 +1,7 @@
 -- Two files that differ in values octets, and that no part of demand 3 can be had for less: each
 -- claim that goes further has a file that refutes it (01, "Values octets and the public copy").
-use Rattle.std.specs.Prelude.{ℕ, true, List, [], ◌∷◌, ◌++◌, ◌≡◌, get_or, replicate}
+use Rattle.std.specs.Prelude.{ℕ, true, List, [], ◌∷◌, ◌++◌, ◌≡◌, get_or, replicate, Ok}
 use Rattle.framing.specs.Listing.{listing}
-use Rattle.index.specs.declared.refusal.Outcome.TheVariants.{Clean}
 use Rattle.index.specs.Bounds.{unlimited}
 use Rattle.index.specs.Walk.{walked}
 use Rattle.publish.specs.Values.{Terms, onward, within, licensed, in_message}
@@ -32,7 +31,7 @@ sample v = sample_of 2 0 255 7 v
 
 -- two such files are two, but alike; they walk clean, and have one public copy
 pub record SamplesAlike : Type 0 where
-  pub clean : (walked unlimited (sample 1)).outcome ≡ Clean
+  pub clean : (walked unlimited (sample 1)).outcome ≡ Ok tt
   pub alike : Alike licensed (sample 1) (sample 2)
   pub two_files : sample 1 ≡ sample 2 → ⊥
   pub copied : public_copy licensed (sample 1) ≡ sample 0

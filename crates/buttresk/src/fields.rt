@@ -9,10 +9,7 @@ ghost use Rattle.sections.specs.BitMap.{bit_map_of};
 ghost use Rattle.buttresk.specs.Fields.{indicator_fields, identification_fields, grid_fields};
 ghost use Rattle.buttresk.specs.Fields.{representation_fields, bit_map_fields, no_identification};
 
-use sections::{
-    BitMap, GridDefinition, Identification, Indicator, MaybeBitMap, MaybeGridDefinition,
-    MaybeIdentification, MaybeIndicator, MaybeReprDefinition, ReprDefinition,
-};
+use sections::{BitMap, GridDefinition, Identification, Indicator, ReprDefinition};
 
 #[repr(C)]
 #[derive(Clone, Copy)]
@@ -69,7 +66,7 @@ pub struct BitMapFields {
 pub extern "C" fn buttresk_indicator(section: &[u8]) -> IndicatorFields
     ensures { result ≡ indicator_fields (indicator_of section.now) }
 {
-    let MaybeIndicator::Fields(fields) = Indicator::from_section(section) else {
+    let Some(fields) = Indicator::from_section(section) else {
         return IndicatorFields {
             known: 0,
             discipline: 0,
@@ -110,7 +107,7 @@ fn no_identification() -> IdentificationFields
 pub extern "C" fn buttresk_identification(payload: &[u8]) -> IdentificationFields
     ensures { result ≡ identification_fields (identification_of payload.now) }
 {
-    let MaybeIdentification::Fields(fields) = Identification::from_payload(payload) else {
+    let Some(fields) = Identification::from_payload(payload) else {
         return no_identification();
     };
     IdentificationFields {
@@ -136,7 +133,7 @@ pub extern "C" fn buttresk_identification(payload: &[u8]) -> IdentificationField
 pub extern "C" fn buttresk_grid_definition(payload: &[u8]) -> GridFields
     ensures { result ≡ grid_fields (grid_definition_of payload.now) }
 {
-    let MaybeGridDefinition::Fields(fields) = GridDefinition::from_payload(payload) else {
+    let Some(fields) = GridDefinition::from_payload(payload) else {
         return GridFields {
             known: 0,
             template: 0,
@@ -155,7 +152,7 @@ pub extern "C" fn buttresk_grid_definition(payload: &[u8]) -> GridFields
 pub extern "C" fn buttresk_representation(payload: &[u8]) -> RepresentationFields
     ensures { result ≡ representation_fields (repr_definition_of payload.now) }
 {
-    let MaybeReprDefinition::Fields(fields) = ReprDefinition::from_payload(payload) else {
+    let Some(fields) = ReprDefinition::from_payload(payload) else {
         return RepresentationFields {
             known: 0,
             template: 0,
@@ -174,7 +171,7 @@ pub extern "C" fn buttresk_representation(payload: &[u8]) -> RepresentationField
 pub extern "C" fn buttresk_bit_map(payload: &[u8]) -> BitMapFields
     ensures { result ≡ bit_map_fields (bit_map_of payload.now) }
 {
-    let MaybeBitMap::Fields(fields) = BitMap::from_payload(payload) else {
+    let Some(fields) = BitMap::from_payload(payload) else {
         return BitMapFields {
             known: 0,
             indicator: 0,

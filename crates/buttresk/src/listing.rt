@@ -16,18 +16,19 @@ pub struct ReadAnswer {
     pub detail: u64,
 }
 
-// The entries of an answer, and the four numbers of its end.
-fn read_answer_of(answer: ListAnswer) -> ReadAnswer
-    ensures { result ≡ read_answer_of answer }
-{
-    let how = answer.end;
-    let end = list_end(how);
-    ReadAnswer {
-        entries: answer.entries,
-        outcome: end.outcome,
-        place: end.place,
-        offset: end.offset,
-        detail: end.detail,
+impl From<ListAnswer> for ReadAnswer {
+    // The entries of an answer, and the four numbers of its end.
+    fn from(answer: ListAnswer) -> ReadAnswer
+        ensures { result ≡ read_answer_of answer }
+    {
+        let end = list_end(answer.end);
+        ReadAnswer {
+            entries: answer.entries,
+            outcome: end.outcome,
+            place: end.place,
+            offset: end.offset,
+            detail: end.detail,
+        }
     }
 }
 
@@ -40,5 +41,5 @@ pub extern "C" fn buttresk_read_list(text: &[u8], entries: &mut [u64]) -> ReadAn
     ensures entries { entries.new
         ≡ (read_of text.now entries.old).table }
 {
-    read_answer_of(read_list(text, entries))
+    ReadAnswer::from(read_list(text, entries))
 }

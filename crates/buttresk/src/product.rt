@@ -3,15 +3,14 @@
 // nothing.
 ghost use Rattle.std.specs.Prelude.{◌≡◌};
 ghost use Rattle.buttresk.specs.Product.{octet_field, time_field, surface_numbers};
-ghost use Rattle.buttresk.specs.Product.{surfaces_field, definition_fields, fields_of};
+ghost use Rattle.buttresk.specs.Product.{surfaces_field, fields_of};
 ghost use Rattle.buttresk.specs.Product.{when_where_numbers, reading_of, product_fields};
 ghost use Rattle.buttresk.specs.Product.{when_where_fields};
 
 use products::{
-    FixedSurface, MaybeOctet, MaybeSurfaces, MaybeTime, Product, TemplateReading, WhenWhere,
-    product_of, when_and_where,
+    FixedSurface, ForecastTime, Product, TemplateReading, WhenWhere, product_of, when_and_where,
 };
-use sections::{MaybeProdDefinition, ProdDefinition};
+use sections::ProdDefinition;
 
 #[repr(C)]
 #[derive(Clone, Copy)]
@@ -66,122 +65,104 @@ pub struct WhenWhereFields {
     pub surfaces: SurfacesField,
 }
 
-// What every section 4 has, whatever its template.
-#[derive(Clone, Copy)]
-struct DefinitionFields {
-    known: u8,
-    coordinates: u16,
-    template: u16,
-}
-
-fn definition_fields(maybe: MaybeProdDefinition) -> DefinitionFields
-    ensures { result ≡ definition_fields maybe }
-{
-    match maybe {
-        MaybeProdDefinition::Fields(fields) => DefinitionFields {
-            known: 1,
-            coordinates: fields.coordinates,
-            template: fields.template,
-        },
-        MaybeProdDefinition::NoProdDefinition => DefinitionFields {
-            known: 0,
-            coordinates: 0,
-            template: 0,
-        },
+impl From<Option<u8>> for OctetField {
+    fn from(maybe: Option<u8>) -> OctetField
+        ensures { result ≡ octet_field maybe }
+    {
+        match maybe {
+            Some(value) => OctetField { known: 1, value },
+            None => OctetField { known: 0, value: 0 },
+        }
     }
 }
 
-fn octet_field(maybe: MaybeOctet) -> OctetField
-    ensures { result ≡ octet_field maybe }
-{
-    match maybe {
-        MaybeOctet::Octet(value) => OctetField { known: 1, value },
-        MaybeOctet::NoOctet => OctetField { known: 0, value: 0 },
-    }
-}
-
-fn time_field(maybe: MaybeTime) -> TimeField
-    ensures { result ≡ time_field maybe }
-{
-    match maybe {
-        MaybeTime::Time(time) => TimeField {
-            known: 1,
-            unit: time.unit,
-            time: time.time,
-        },
-        MaybeTime::NoTime => TimeField {
-            known: 0,
-            unit: 0,
-            time: 0,
-        },
-    }
-}
-
-fn surface_numbers(surface: FixedSurface) -> Surface
-    ensures { result ≡ surface_numbers surface }
-{
-    Surface {
-        surface: surface.surface,
-        factor: surface.factor,
-        value: surface.value,
-    }
-}
-
-fn surfaces_field(maybe: MaybeSurfaces) -> SurfacesField
-    ensures { result ≡ surfaces_field maybe }
-{
-    match maybe {
-        MaybeSurfaces::Both(first, second) => SurfacesField {
-            known: 1,
-            first: surface_numbers(first),
-            second: surface_numbers(second),
-        },
-        MaybeSurfaces::NoSurfaces => {
-            let none = Surface {
-                surface: 0,
-                factor: 0,
-                value: 0,
-            };
-            SurfacesField {
+impl From<Option<ForecastTime>> for TimeField {
+    fn from(maybe: Option<ForecastTime>) -> TimeField
+        ensures { result ≡ time_field maybe }
+    {
+        match maybe {
+            Some(time) => TimeField {
+                known: 1,
+                unit: time.unit,
+                time: time.time,
+            },
+            None => TimeField {
                 known: 0,
-                first: none,
-                second: none,
+                unit: 0,
+                time: 0,
+            },
+        }
+    }
+}
+
+impl From<FixedSurface> for Surface {
+    fn from(surface: FixedSurface) -> Surface
+        ensures { result ≡ surface_numbers surface }
+    {
+        Surface {
+            surface: surface.surface,
+            factor: surface.factor,
+            value: surface.value,
+        }
+    }
+}
+
+impl From<Option<(FixedSurface, FixedSurface)>> for SurfacesField {
+    fn from(maybe: Option<(FixedSurface, FixedSurface)>) -> SurfacesField
+        ensures { result ≡ surfaces_field maybe }
+    {
+        match maybe {
+            Some((first, second)) => SurfacesField {
+                known: 1,
+                first: Surface::from(first),
+                second: Surface::from(second),
+            },
+            None => {
+                let none = Surface {
+                    surface: 0,
+                    factor: 0,
+                    value: 0,
+                };
+                SurfacesField {
+                    known: 0,
+                    first: none,
+                    second: none,
+                }
             }
         }
     }
 }
 
-// All fields as numbers.
-fn product_fields(definition: MaybeProdDefinition, product: Product) -> ProductFields
-    ensures { result ≡ fields_of definition product }
-{
-    let definition = definition_fields(definition);
-    let category = product.category;
-    let number = product.number;
-    let process = product.process;
-    let time = product.time;
-    let surfaces = product.surfaces;
-    ProductFields {
-        known: definition.known,
-        coordinates: definition.coordinates,
-        template: definition.template,
-        category: octet_field(category),
-        number: octet_field(number),
-        process: octet_field(process),
-        time: time_field(time),
-        surfaces: surfaces_field(surfaces),
+impl From<WhenWhere> for WhenWhereFields {
+    // When and where as numbers.
+    fn from(told: WhenWhere) -> WhenWhereFields
+        ensures { result ≡ when_where_numbers told }
+    {
+        WhenWhereFields {
+            time: TimeField::from(told.time),
+            surfaces: SurfacesField::from(told.surfaces),
+        }
     }
 }
 
-// When and where as numbers.
-fn when_where_fields(told: WhenWhere) -> WhenWhereFields
-    ensures { result ≡ when_where_numbers told }
+// All fields as numbers. Coordinates and template are of what every section 4 has, whatever its
+// template.
+fn product_fields(definition: Option<ProdDefinition>, product: Product) -> ProductFields
+    ensures { result ≡ fields_of definition product }
 {
-    let time = told.time;
-    let surfaces = told.surfaces;
-    WhenWhereFields {
-        time: time_field(time),
-        surfaces: surfaces_field(surfaces),
+    let (known, coordinates, template) = match definition {
+        Some(fields) => (1, fields.coordinates, fields.template),
+        None => (0, 0, 0),
+    };
+    ProductFields {
+        known,
+        coordinates,
+        template,
+        category: OctetField::from(product.category),
+        number: OctetField::from(product.number),
+        process: OctetField::from(product.process),
+        time: TimeField::from(product.time),
+        surfaces: SurfacesField::from(product.surfaces),
     }
 }
 
@@ -191,23 +172,15 @@ const AS_CRATE: u64 = 1;
 // The number of the one by the Manual.
 const BY_MANUAL: u64 = 2;
 
-#[derive(Clone, Copy)]
-enum MaybeReading {
-    Named(TemplateReading),
-    NoReading,
-}
-
 // The reading that a number names. No other is taken for the one that it may have meant.
-fn reading_of(number: u64) -> MaybeReading
+fn reading_of(number: u64) -> Option<TemplateReading>
     ensures { result ≡ reading_of number }
 {
-    if number == AS_CRATE {
-        return MaybeReading::Named(TemplateReading::AsCrate);
+    match number {
+        AS_CRATE => Some(TemplateReading::AsCrate),
+        BY_MANUAL => Some(TemplateReading::ByManual),
+        _ => None,
     }
-    if number == BY_MANUAL {
-        return MaybeReading::Named(TemplateReading::ByManual);
-    }
-    MaybeReading::NoReading
 }
 
 // Section 4's fields with `known` 1, or `known` 0: of its payload, by a reading. Each product field
@@ -217,15 +190,15 @@ fn reading_of(number: u64) -> MaybeReading
 pub extern "C" fn buttresk_product_definition(reading: u64, payload: &[u8]) -> ProductFields
     ensures { result ≡ product_fields reading payload.now }
 {
-    let MaybeReading::Named(named) = reading_of(reading) else {
+    let Some(named) = reading_of(reading) else {
         let none = Product {
-            category: MaybeOctet::NoOctet,
-            number: MaybeOctet::NoOctet,
-            process: MaybeOctet::NoOctet,
-            time: MaybeTime::NoTime,
-            surfaces: MaybeSurfaces::NoSurfaces,
+            category: None,
+            number: None,
+            process: None,
+            time: None,
+            surfaces: None,
         };
-        return product_fields(MaybeProdDefinition::NoProdDefinition, none);
+        return product_fields(None, none);
     };
     product_fields(
         ProdDefinition::from_payload(payload),
@@ -240,11 +213,11 @@ pub extern "C" fn buttresk_product_definition(reading: u64, payload: &[u8]) -> P
 pub extern "C" fn buttresk_when_and_where(reading: u64, payload: &[u8]) -> WhenWhereFields
     ensures { result ≡ when_where_fields reading payload.now }
 {
-    let MaybeReading::Named(named) = reading_of(reading) else {
-        return when_where_fields(WhenWhere {
-            time: MaybeTime::NoTime,
-            surfaces: MaybeSurfaces::NoSurfaces,
+    let Some(named) = reading_of(reading) else {
+        return WhenWhereFields::from(WhenWhere {
+            time: None,
+            surfaces: None,
         });
     };
-    when_where_fields(when_and_where(named, payload))
+    WhenWhereFields::from(when_and_where(named, payload))
 }

@@ -25,17 +25,19 @@ pub struct StoreAnswer {
     pub written: u64,
 }
 
-// The five numbers of an end.
-fn five_of(answer: StoreEnd) -> StoreAnswer
-    ensures { result ≡ five_of answer }
-{
-    let end = answer.end;
-    StoreAnswer {
-        outcome: end.outcome,
-        place: end.place,
-        offset: end.offset,
-        detail: end.detail,
-        written: answer.written,
+impl From<StoreEnd> for StoreAnswer {
+    // The five numbers of an end.
+    fn from(answer: StoreEnd) -> StoreAnswer
+        ensures { result ≡ five_of answer }
+    {
+        let end = answer.end;
+        StoreAnswer {
+            outcome: end.outcome,
+            place: end.place,
+            offset: end.offset,
+            detail: end.detail,
+            written: answer.written,
+        }
     }
 }
 
@@ -48,7 +50,7 @@ pub extern "C" fn buttresk_publish(file: &[u8], dest: &mut [u8]) -> StoreAnswer
     ensures dest { dest.new
         ≡ (copy_of licensed file.now dest.old).dest }
 {
-    five_of(copy_end(publish(file, dest)))
+    StoreAnswer::from(copy_end(publish(file, dest)))
 }
 
 // Writes the message of a plan, lent as rows of three numbers; a refusal leaves the destination as
@@ -67,7 +69,7 @@ pub extern "C" fn buttresk_write(
     ensures dest { dest.new ≡ (write_of discipline reserved_1 reserved_2
         plan.now store.now dest.old).dest }
 {
-    five_of(write_end(write(discipline, reserved_1, reserved_2, plan, store, dest)))
+    StoreAnswer::from(write_end(write(discipline, reserved_1, reserved_2, plan, store, dest)))
 }
 
 // Writes the inventory of a file; a refusal leaves the buffer as it was. Number, place, offset and
@@ -79,5 +81,5 @@ pub extern "C" fn buttresk_inventory(file: &[u8], text: &mut [u8]) -> StoreAnswe
     ensures text { text.new
         ≡ (inventory_of file.now text.old).text }
 {
-    five_of(inventory_end(inventory(file, text)))
+    StoreAnswer::from(inventory_end(inventory(file, text)))
 }

@@ -1,13 +1,10 @@
 -- An entry's line, and the text of a list of entries (02, Ticket 1: "separated by colons, "none"
 -- for any of the last five that is none, closed by a line feed"). A character is given by its code.
-use Rattle.std.specs.Prelude.{ℕ, ◌-◌, List, [], ◌∷◌, ◌++◌, length, replicate}
-use Rattle.products.specs.declared.MaybeOctet.{MaybeOctet}
-use Rattle.products.specs.declared.MaybeOctet.TheVariants.{Octet, NoOctet}
-use Rattle.products.specs.declared.MaybeTime.{MaybeTime}
-use Rattle.products.specs.declared.MaybeTime.TheVariants.{Time, NoTime}
+use Rattle.std.specs.Prelude.{ℕ, ◌-◌, List, [], ◌∷◌, ◌++◌, length, replicate, Option, Some, None}
 use Rattle.entries.specs.Decimal.{decimal}
 use Rattle.entries.specs.declared.Entry.{Entry}
 use Rattle.entries.specs.declared.Spelled.{Spelled}
+use Rattle.products.specs.declared.ForecastTime.{ForecastTime}
 
 -- `:`, and what closes a line
 abbrev pub colon : ℕ
@@ -21,18 +18,18 @@ abbrev pub none_text : List ℕ
 none_text = 110 ∷ 111 ∷ 110 ∷ 101 ∷ []
 
 -- one of the last five fields
-unfoldable pub octet_text : MaybeOctet → List ℕ
-octet_text (Octet n) = decimal n
-octet_text NoOctet = none_text
+unfoldable pub octet_text : Option ℕ → List ℕ
+octet_text (Some n) = decimal n
+octet_text None = none_text
 
 -- time unit and time: both none or neither
-unfoldable pub unit_text : MaybeTime → List ℕ
-unit_text (Time t) = decimal t.unit
-unit_text NoTime = none_text
+unfoldable pub unit_text : Option ForecastTime → List ℕ
+unit_text (Some t) = decimal t.unit
+unit_text None = none_text
 
-unfoldable pub time_text : MaybeTime → List ℕ
-time_text (Time t) = decimal t.time
-time_text NoTime = none_text
+unfoldable pub time_text : Option ForecastTime → List ℕ
+time_text (Some t) = decimal t.time
+time_text None = none_text
 
 -- message and submessage number, octet offset of section 0, discipline, category, parameter number,
 -- time unit and time, first surface type

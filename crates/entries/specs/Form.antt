@@ -1,26 +1,23 @@
 -- What it is to be in this form (02, Ticket 1), said of a text and what it says, and not as a way
 -- to read it.
-use Rattle.std.specs.Prelude.{ℕ, ◌≤◌, ◌≡◌, List, [], ◌∷◌, ◌++◌}
-use Rattle.products.specs.declared.MaybeOctet.{MaybeOctet}
-use Rattle.products.specs.declared.MaybeOctet.TheVariants.{Octet, NoOctet}
-use Rattle.products.specs.declared.MaybeTime.{MaybeTime}
-use Rattle.products.specs.declared.MaybeTime.TheVariants.{Time, NoTime}
+use Rattle.std.specs.Prelude.{ℕ, ◌≤◌, ◌≡◌, List, [], ◌∷◌, ◌++◌, Option, Some, None}
 use Rattle.index.specs.Bounds.{most_octets}
 use Rattle.entries.specs.Decimal.{Spelling}
 use Rattle.entries.specs.Entries.{none_text, joined, line_feed}
 use Rattle.entries.specs.declared.Entry.{Entry}
+use Rattle.products.specs.declared.ForecastTime.{ForecastTime}
 
 -- a number of one octet, and one of four
 abbrev pub InOctet : ℕ → Type 0
 InOctet n = n ≤ 255
 
-abbrev pub OctetInBounds : MaybeOctet → Type 0
-OctetInBounds (Octet n) = InOctet n
-OctetInBounds NoOctet = Unit
+abbrev pub OctetInBounds : Option ℕ → Type 0
+OctetInBounds (Some n) = InOctet n
+OctetInBounds None = Unit
 
-abbrev pub TimeInBounds : MaybeTime → Type 0
-TimeInBounds (Time t) = InOctet t.unit × (t.time ≤ 4294967295)
-TimeInBounds NoTime = Unit
+abbrev pub TimeInBounds : Option ForecastTime → Type 0
+TimeInBounds (Some t) = InOctet t.unit × (t.time ≤ 4294967295)
+TimeInBounds None = Unit
 
 -- message and submessage number and offset are at most 2^40, the time fits four octets, the rest
 -- one
@@ -35,14 +32,14 @@ pub record InBounds (e : Entry) : Type 0 where
   pub surface : OctetInBounds e.surface
 
 -- a field that can be none
-abbrev pub OctetSaid : List ℕ → MaybeOctet → Type 0
-OctetSaid text (Octet n) = Spelling text n
-OctetSaid text NoOctet = text ≡ none_text
+abbrev pub OctetSaid : List ℕ → Option ℕ → Type 0
+OctetSaid text (Some n) = Spelling text n
+OctetSaid text None = text ≡ none_text
 
 -- time unit and time are both none or neither
-abbrev pub TimeSaid : List ℕ → List ℕ → MaybeTime → Type 0
-TimeSaid unit time (Time t) = Spelling unit t.unit × Spelling time t.time
-TimeSaid unit time NoTime = (unit ≡ none_text) × (time ≡ none_text)
+abbrev pub TimeSaid : List ℕ → List ℕ → Option ForecastTime → Type 0
+TimeSaid unit time (Some t) = Spelling unit t.unit × Spelling time t.time
+TimeSaid unit time None = (unit ≡ none_text) × (time ≡ none_text)
 
 -- nine texts say an entry
 pub record Says (message submessage offset discipline category number unit time surface : List ℕ)

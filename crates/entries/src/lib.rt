@@ -5,7 +5,7 @@ mod line;
 
 use framing::Offset;
 pub use line::spell;
-use products::{MaybeOctet, MaybeTime};
+use products::ForecastTime;
 
 #[derive(Clone, Copy)]
 pub struct Entry {
@@ -15,11 +15,11 @@ pub struct Entry {
     // Where section 0 stands in the file.
     pub offset: Offset,
     pub discipline: u8,
-    pub category: MaybeOctet,
-    pub number: MaybeOctet,
-    pub time: MaybeTime,
+    pub category: Option<u8>,
+    pub number: Option<u8>,
+    pub time: Option<ForecastTime>,
     // The type of the first fixed surface.
-    pub surface: MaybeOctet,
+    pub surface: Option<u8>,
 }
 
 // Octets of the longest line.

@@ -7,7 +7,7 @@ ghost use Rattle.entries.specs.Entries.{spelled_of};
 ghost use Rattle.entries.specs.Put.{RoomFor, PutBefore};
 
 use crate::{Entry, MOST_LINE, Spelled};
-use products::{MaybeOctet, MaybeTime};
+use products::ForecastTime;
 
 // The digits of a number.
 fn put_number(dest: &mut [u8], end: usize, number: u64) -> usize
@@ -56,31 +56,31 @@ fn put_none_field(dest: &mut [u8], end: usize) -> usize
 }
 
 // One of the last five fields.
-fn put_octet_field(dest: &mut [u8], end: usize, octet: MaybeOctet) -> usize
+fn put_octet_field(dest: &mut [u8], end: usize, octet: Option<u8>) -> usize
     requires { RoomFor 21 end dest.old }
     ensures short { end ≤ result + 5 }
     ensures text { PutBefore end (colon ∷ octet_text octet) dest.old result
         dest.new }
 {
     match octet {
-        MaybeOctet::Octet(number) => put_number_field(dest, end, number as u64),
-        MaybeOctet::NoOctet => put_none_field(dest, end),
+        Some(number) => put_number_field(dest, end, number as u64),
+        None => put_none_field(dest, end),
     }
 }
 
 // Two of them: unit and time.
-fn put_time_fields(dest: &mut [u8], end: usize, time: MaybeTime) -> usize
+fn put_time_fields(dest: &mut [u8], end: usize, time: Option<ForecastTime>) -> usize
     requires { RoomFor 32 end dest.old }
     ensures short { end ≤ result + 15 }
     ensures text { PutBefore end ((colon ∷ unit_text time) ++ (colon ∷ time_text time))
         dest.old result dest.new }
 {
     match time {
-        MaybeTime::Time(given) => {
+        Some(given) => {
             let at = put_number_field(dest, end, given.time as u64);
             put_number_field(dest, at, given.unit as u64)
         }
-        MaybeTime::NoTime => {
+        None => {
             let at = put_none_field(dest, end);
             put_none_field(dest, at)
         }

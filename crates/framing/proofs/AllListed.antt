@@ -1,4 +1,5 @@
 -- Where the input is over, no section is laid out behind those that are listed.
+use Rattle.std.specs.Prelude.{None}
 use Prim.Native.Nat.{ℕ, zero, suc, ◌+◌, ◌-◌, ◌≤◌, ◌<◌}
 use native.Mathlib.Omega.{arith}
 use mathlib.Core.Path.{◌≡◌, refl, sym, ap, subst, subst₂}
@@ -9,7 +10,6 @@ use Rattle.framing.specs.Search.{IsNextStart, next_start}
 use Rattle.framing.specs.Framing.{read_at}
 use Rattle.framing.specs.Listing.{Listing, over, listed_by, listing}
 use Rattle.framing.specs.LaidOut.{LaidOut, OverListsAll}
-use Rattle.framing.specs.declared.search.Found.TheVariants.{Nowhere}
 use Rattle.framing.specs.declared.read.Section.{Section}
 use Rattle.framing.specs.declared.read.Cursor.{Cursor}
 use Rattle.framing.specs.Read.{Read}
@@ -50,7 +50,7 @@ module _ (file : List ℕ) where
   behind at rest s next more (heads common own) (eighth z w e l) = absurd (own.not_last z)
 
   -- nothing is laid out where the input is over
-  none_between : (at rest : ℕ) → rest ≡ 0 → next_start file at ≡ Nowhere → (more : List Section) → L at rest more → more ≡ []
+  none_between : (at rest : ℕ) → rest ≡ 0 → next_start file at ≡ None → (more : List Section) → L at rest more → more ≡ []
   none_between at rest between none [] l = refl
   none_between at rest between none (s ∷ more) l = go (first file l)
     where

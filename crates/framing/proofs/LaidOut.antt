@@ -1,4 +1,5 @@
 -- Every listing is laid out as 01 says, and so is each beginning of it.
+use Rattle.std.specs.Prelude.{Some}
 use Prim.Native.Nat.{ℕ, zero, suc, ◌+◌}
 use native.Mathlib.Omega.{arith}
 use mathlib.Core.Path.{◌≡◌, refl, sym, ap, subst, subst₂, ◌∙◌}
@@ -11,7 +12,6 @@ use Rattle.framing.specs.Search.{says, starts_at, IsNextStart}
 use Rattle.framing.specs.Framing.{read_at}
 use Rattle.framing.specs.Listing.{Listing, listed_by, listing_from, listing}
 use Rattle.framing.specs.LaidOut.{stated_length, Spells, HasGrib, FirstGrib, section_of, LaidOut, nothing_more, indicator_next, end_next, headed_next, ListingIsLaidOut}
-use Rattle.framing.specs.declared.search.Found.TheVariants.{At}
 use Rattle.framing.specs.declared.read.Section.{Section}
 use Rattle.framing.specs.declared.read.Cursor.{Cursor}
 use Rattle.framing.specs.Read.{Read}
@@ -36,7 +36,7 @@ says_so file at a b c d (p, q, r, s) = and_of (and_of (and_of (eq-eqb _ _ p) (eq
 pub has_grib : (file : List ℕ) (g : ℕ) → starts_at file g ≡ true → HasGrib file g
 has_grib file g e = (start_room file g e, spells file g 71 82 73 66 (start_says file g e))
 
-pub first_grib : (file : List ℕ) (at g : ℕ) → IsNextStart file at (At g) → FirstGrib file at g
+pub first_grib : (file : List ℕ) (at g : ℕ) → IsNextStart file at (Some g) → FirstGrib file at g
 first_grib file at g (from, there, none) = (
   from,
   has_grib file g there,

@@ -1,7 +1,7 @@
 -- One read: what stands at a place of a file, with so many octets of its message to come
 -- (01, "Framing", and the order of refusals 2 to 9 in one section). It looks at no octet of a
 -- payload.
-use Rattle.std.specs.Prelude.{ℕ, ◌+◌, ◌-◌, Bool, not, ◌&&◌, ◌||◌, List, ltb, leb, eqb, length, get_or}
+use Rattle.std.specs.Prelude.{ℕ, ◌+◌, ◌-◌, Bool, not, ◌&&◌, ◌||◌, List, ltb, leb, eqb, length, get_or, Option, Some, None}
 use Rattle.octets.specs.Words.{pick}
 use Rattle.octets.specs.BigEndian.{be_at}
 use Rattle.sections.specs.Kinds.{
@@ -17,11 +17,7 @@ use Rattle.sections.specs.Kinds.{
   end_section,
   least_payload_of,
 }
-use Rattle.sections.specs.declared.kinds.LeastOf.{LeastOf}
-use Rattle.sections.specs.declared.kinds.LeastOf.TheVariants.{Octets, NoHeader}
 use Rattle.framing.specs.Search.{says_mark, next_start}
-use Rattle.framing.specs.declared.search.Found.{Found}
-use Rattle.framing.specs.declared.search.Found.TheVariants.{At, Nowhere}
 use Rattle.framing.specs.declared.read.Fault.{Fault}
 use Rattle.framing.specs.declared.read.Fault.TheVariants.{
   Cut,
@@ -80,9 +76,9 @@ unfoldable pub missing : ℕ → ℕ → ℕ
 missing len left = pick (ltb left len) (len - left) least_bit_map
 
 -- a section behind its header, of a kind with this least payload: 7, 2 (payload), 8, 9
-unfoldable pub payload_at : LeastOf → ℕ → ℕ → ℕ → ℕ → ℕ → Read
-payload_at NoHeader at number len left rest = refused_at (UnknownNumber number) at
-payload_at (Octets least) at number len left rest =
+unfoldable pub payload_at : Option ℕ → ℕ → ℕ → ℕ → ℕ → ℕ → Read
+payload_at None at number len left rest = refused_at (UnknownNumber number) at
+payload_at (Some least) at number len left rest =
     pick (is_cut number len left) (refused_at (Cut (missing len left)) at)
     (pick (ltb (len - header_size) least) (refused_at (PayloadUnderLeast (len - header_size)) at)
     (pick (ltb rest len) (refused_at (LongerThanRest len) at)
@@ -100,9 +96,9 @@ header_at file at rest =
     (payload_at (least_payload_of number) at number len left rest))
 
 -- between messages: section 0 at the next start, or the input is over
-unfoldable pub message_at : List ℕ → Found → Read
-message_at file (At g) = indicator_at file g
-message_at file Nowhere = Over
+unfoldable pub message_at : List ℕ → Option ℕ → Read
+message_at file (Some g) = indicator_at file g
+message_at file None = Over
 
 -- rest 0: search; no octet left: over; rest just a section 8: that; any other rest: a header
 unfoldable pub read_at : List ℕ → ℕ → ℕ → Read

@@ -7,4 +7,4 @@ mod read;
 mod search;
 
 pub use read::{Cursor, Fault, Framed, How, Offset, Section, framed_at};
-pub use search::{Found, next_start};
+pub use search::next_start;

@@ -6,11 +6,9 @@ ghost use Rattle.framing.specs.Framing.{section_at, refused_at, without, framed,
 ghost use Rattle.framing.specs.Framing.{indicator_at, end_at, header_at, payload_at};
 ghost use Rattle.framing.specs.Framing.{is_cut, missing};
 
-use crate::search::{Found, next_start, says};
+use crate::search::{next_start, says};
 use octets::{be32, be64};
-use sections::{
-    BitMap, DataSection, EndSection, HEADER_SIZE, Indicator, LeastOf, least_payload_of,
-};
+use sections::{BitMap, DataSection, EndSection, HEADER_SIZE, Indicator, least_payload_of};
 
 // An octet of the file, counted from 0. A section's place in the list is another quantity.
 #[derive(Clone, Copy)]
@@ -206,7 +204,7 @@ fn payload_at(at: usize, number: u8, length: u32, left: usize, rest: u64) -> Fra
     ensures { result ≡ framed (payload_at (least_payload_of number) at number length left rest) }
 {
     let known = least_payload_of(number as u64);
-    let LeastOf::Octets(least) = known else {
+    let Some(least) = known else {
         return refuse(Fault::UnknownNumber(number as u64), at);
     };
     if is_cut(number as u64, length, left) {
@@ -250,8 +248,8 @@ pub fn framed_at(file: &[u8], cursor: Cursor) -> Framed
     if rest == 0 {
         let found = next_start(file, at);
         return match found {
-            Found::At(g) => indicator_at(file, g),
-            Found::Nowhere => over(),
+            Some(g) => indicator_at(file, g),
+            None => over(),
         };
     }
     if file.len() <= at {

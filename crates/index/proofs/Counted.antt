@@ -1,4 +1,5 @@
 -- Sections told at places, the last of a number before a place, and how many there are.
+use Rattle.std.specs.Prelude.{Option, Some, None}
 use Prim.Native.Nat.{ℕ, suc, ◌+◌, ◌≤◌, ◌<◌}
 use native.Mathlib.Omega.{arith}
 use native.Mathlib.Numerals.{add-one}
@@ -12,9 +13,8 @@ use Rattle.octets.specs.Words.{pick, Not}
 use Rattle.framing.specs.declared.read.Section.{Section}
 use Rattle.framing.proofs.Tests.{by_test}
 use Rattle.index.specs.Lines.{unlisted}
-use Rattle.index.specs.declared.line.LocalUsePlace.{LocalUsePlace}
-use Rattle.index.specs.declared.line.LocalUsePlace.TheVariants.{At, Absent}
 use Rattle.index.specs.Pins.{told_at, ToldAt, LastBefore, LocalBefore, count_of}
+use Rattle.order.specs.declared.Place.{Place}
 
 count_append : (number : ℕ) (a b : List Section) → count_of number (a ++ b) ≡ count_of number a + count_of number b
 count_append number [] b = omega arith
@@ -80,17 +80,17 @@ module _ (told : List Section) where
   last_is low here = record { low = low; high = omega arith; there = here; last = λ k above below. absurd (omega arith) }
 
   -- the same of a section 2
-  pub local_stays : {m : ℕ} (from c : ℕ) (local : LocalUsePlace) → ToldAt told m c → Not (2 ≡ m) → LocalBefore told from c local
+  pub local_stays : {m : ℕ} (from c : ℕ) (local : Option Place) → ToldAt told m c → Not (2 ≡ m) → LocalBefore told from c local
       → LocalBefore told from (c + 1) local
-  local_stays from c (At p) here other l = last_stays here other l
-  local_stays from c Absent here other none = λ k above below there.
+  local_stays from c (Some p) here other l = last_stays here other l
+  local_stays from c None here other none = λ k above below there.
       up_to c (λ (k : ℕ). (from ≤ k) × ToldAt told 2 k) (λ k below so. none k so.0 below so.1)
       (λ so. apart so.1 here other refl) k below (above, there)
 
-  pub local_was : {m : ℕ} (from v : ℕ) (local : LocalUsePlace) → ToldAt told m v → Not (2 ≡ m) → LocalBefore told from (v + 1) local
+  pub local_was : {m : ℕ} (from v : ℕ) (local : Option Place) → ToldAt told m v → Not (2 ≡ m) → LocalBefore told from (v + 1) local
       → LocalBefore told from v local
-  local_was from v (At p) here other l = last_was here other l
-  local_was from v Absent here other none = λ k above below. none k above (omega arith)
+  local_was from v (Some p) here other l = last_was here other l
+  local_was from v None here other none = λ k above below. none k above (omega arith)
 
   -- a place more counts the section there
   pub count_step : (n m from c : ℕ) → from ≤ c → ToldAt told m c

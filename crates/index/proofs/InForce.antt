@@ -1,5 +1,6 @@
 -- What is in force at each stand is the last section of each number in the message in hand (`Inside`), and between messages it is a
 -- message newly opened; a section that is passed keeps that so, and the line that is made of it is pinned.
+use Rattle.std.specs.Prelude.{Option, Some, None}
 use Prim.Native.Nat.{ℕ, ◌+◌, ◌≤◌, ◌<◌}
 use native.Mathlib.Omega.{arith}
 use mathlib.Core.Path.{◌≡◌, refl, sym, ap, subst, subst₂, ◌∙◌}
@@ -17,9 +18,6 @@ use Rattle.order.specs.declared.Place.{Place}
 use Rattle.order.specs.declared.Order.{Order}
 use Rattle.order.specs.declared.Order.TheVariants.{BetweenMessages, AfterIndicator, AfterData, SubmessageStart}
 use Rattle.index.specs.Lines.{place, opened, with_span, with_local, with_places, in_force, with_submessage, line_of}
-use Rattle.index.specs.declared.line.LocalUsePlace.TheVariants.{At}
-use Rattle.index.specs.declared.line.MessageEnd.{MessageEnd}
-use Rattle.index.specs.declared.line.MessageEnd.TheVariants.{GoesOn, ClosedAt}
 use Rattle.index.specs.declared.line.Span.{Span}
 use Rattle.index.specs.declared.line.Force.{Force}
 use Rattle.index.specs.Walk.{span_at, span_behind, comes_in_force}
@@ -83,7 +81,7 @@ module _ (file : List ℕ) (told : List Section) where
     lines' : f.submessage + waiting next ≡ count_of 7 (drop z (take (c + 1) told))
     lines' = let step = count_step told 7 n z c z_before here in let old = i.lines in omega arith
 
-    as_local : n ≡ 2 → Inside (c + 1) next (with_local f (At (place c))) z
+    as_local : n ≡ 2 → Inside (c + 1) next (with_local f (Some (place c))) z
     as_local two =
         record {
           room = i.room;
@@ -155,8 +153,8 @@ module _ (file : List ℕ) (told : List Section) where
       (inside ajar z (in_place c order next f z s.number i (by_number told here) low high none seven lower))
 
   -- the line of the submessage in hand
-  pinned : (f : Force) (end : MessageEnd) → Inside (kept f 7 + 1) AfterData f (kept f 0)
-      → (ToldAt told 8 (kept f 7 + 1) → end ≡ ClosedAt (place (kept f 7 + 1))) → (Not (ToldAt told 8 (kept f 7 + 1)) → end ≡ GoesOn)
+  pinned : (f : Force) (end : Option Place) → Inside (kept f 7 + 1) AfterData f (kept f 0)
+      → (ToldAt told 8 (kept f 7 + 1) → end ≡ Some (place (kept f 7 + 1))) → (Not (ToldAt told 8 (kept f 7 + 1)) → end ≡ None)
       → PinnedLine file told (line_of f end)
   unfolding line_of span_at
   pinned f end i closed goes_on =
@@ -191,8 +189,8 @@ module _ (file : List ℕ) (told : List Section) where
   in_hand_lem {c} {order} {f} (inside ajar z i) e =
       let here = subst₂ (λ (o : Order) (k : ℕ). Inside c o f k) e (sym i.start) i in (here.data_last refl, here)
 
-  pub line_of_lem : {c : ℕ} {order : Order} {f : Force} → InForce c order f → order ≡ AfterData → (end : MessageEnd)
-      → (ToldAt told 8 c → end ≡ ClosedAt (place c)) → (Not (ToldAt told 8 c) → end ≡ GoesOn) → PinnedLine file told (line_of f end)
+  pub line_of_lem : {c : ℕ} {order : Order} {f : Force} → InForce c order f → order ≡ AfterData → (end : Option Place)
+      → (ToldAt told 8 c → end ≡ Some (place c)) → (Not (ToldAt told 8 c) → end ≡ None) → PinnedLine file told (line_of f end)
   line_of_lem {f = f} force e end closed goes_on =
       let (next, i) = in_hand_lem force e in
       pinned f end (rw (← next) at i) (rw (← next) at closed) (rw (← next) at goes_on)

@@ -1,5 +1,6 @@
 -- The order of refusals after a good read, read off the definition of a walk (01, "Refusal numbers": "14 for a submessage that goes on, then 11
 -- or 12, then 13; for a section 8 that closes: 13, then 14, both lines or neither").
+use Rattle.std.specs.Prelude.{Some, None}
 use mathlib.Core.Path.{◌≡◌}
 use mathlib.Core.Bool.{true, false}
 use mathlib.Core.List.{List, [], ◌∷◌}
@@ -11,7 +12,6 @@ use Rattle.order.specs.declared.Order.{Order}
 use Rattle.order.specs.declared.Order.TheVariants.{BetweenMessages, SubmessageStart}
 use Rattle.order.specs.declared.Judged.TheVariants as judged
 use Rattle.index.specs.Lines.{place, opened, line_of}
-use Rattle.index.specs.declared.line.MessageEnd.TheVariants.{GoesOn, ClosedAt}
 use Rattle.index.specs.declared.line.Line.{Line}
 use Rattle.index.specs.declared.refusal.Refusal.TheVariants as refusal
 use Rattle.index.specs.declared.bounds.Room.{Room}
@@ -20,7 +20,7 @@ use Rattle.index.specs.Walk.{Reached, stops, passes, here, comes_in_force, fitte
 module _ (room : Room) (r : Reached) (s : Section) where
   -- the line of the submessage in hand, whose message goes on
   abbrev line : Line
-  line = line_of r.force GoesOn
+  line = line_of r.force None
 
   -- a submessage that goes on: 14 comes first
   pub going_on_no_line : completes r.order s.number ≡ true → room.lines ≤ r.lines
@@ -86,7 +86,7 @@ module _ (room : Room) (r : Reached) (s : Section) where
   -- else both, one message more is closed, and the next begins with nothing in force
   pub closing_closes : r.sections < room.rows → r.lines < room.lines
       → closing room r s
-      ≡ passes (line_of r.force (ClosedAt (place r.sections)) ∷ []) 1
+      ≡ passes (line_of r.force (Some (place r.sections)) ∷ []) 1
       (record {
         file = r.file;
         sections = r.sections + 1;

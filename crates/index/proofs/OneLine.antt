@@ -1,4 +1,5 @@
 -- A pinned line is determined by the sections told and the place of its section 7.
+use Rattle.std.specs.Prelude.{Option, Some, None}
 use Prim.Native.Nat.{ℕ, ◌+◌, ◌<◌}
 use native.Mathlib.Omega.{arith}
 use mathlib.Core.Path.{◌≡◌, refl, sym, ap, ap₂, ◌∙◌}
@@ -13,9 +14,6 @@ use Rattle.framing.specs.declared.read.Offset.{Offset}
 use Rattle.framing.specs.declared.read.Section.{Section}
 use Rattle.order.specs.declared.Place.{Place}
 use Rattle.index.specs.Lines.{place, unlisted}
-use Rattle.index.specs.declared.line.LocalUsePlace.{LocalUsePlace}
-use Rattle.index.specs.declared.line.LocalUsePlace.TheVariants.{At, Absent}
-use Rattle.index.specs.declared.line.MessageEnd.TheVariants.{ClosedAt}
 use Rattle.index.specs.Pins.{told_at, ToldAt, LastBefore, LocalBefore, count_of, OneLine}
 
 -- two places are one where their numbers are
@@ -29,11 +27,11 @@ module _ (told : List Section) where
       let behind : Not (q < p) = λ less. b.last p less a.high a.there in
       omega arith
 
-  one_local : (from v : ℕ) (local other : LocalUsePlace) → LocalBefore told from v local → LocalBefore told from v other → local ≡ other
-  one_local from v (At p) (At q) a b = ap At (same_place p q (one_last a b))
-  one_local from v (At p) Absent a none = absurd (none p.0 a.low a.high a.there)
-  one_local from v Absent (At q) none b = absurd (none q.0 b.low b.high b.there)
-  one_local from v Absent Absent a b = refl
+  one_local : (from v : ℕ) (local other : Option Place) → LocalBefore told from v local → LocalBefore told from v other → local ≡ other
+  one_local from v (Some p) (Some q) a b = ap Some (same_place p q (one_last a b))
+  one_local from v (Some p) None a none = absurd (none p.0 a.low a.high a.there)
+  one_local from v None (Some q) none b = absurd (none q.0 b.low b.high b.there)
+  one_local from v None None a b = refl
 
   -- a section of a number is told at a place, or not
   by_told : (n p : ℕ) (So : Type 0) → (ToldAt told n p → So) → (Not (ToldAt told n p) → So) → So
@@ -73,7 +71,7 @@ one_line file told a b p q v = λ i.
     end : a.end ≡ b.end
     end =
         by_told told 8 (a.values.0 + 1) (a.end ≡ b.end)
-        (λ there. p.closed there ∙ ap (λ (k : ℕ). ClosedAt (place (k + 1))) v ∙ sym (q.closed (rw v at there)))
+        (λ there. p.closed there ∙ ap (λ (k : ℕ). Some (place (k + 1))) v ∙ sym (q.closed (rw v at there)))
         (λ absent. p.goes_on absent ∙ sym (q.goes_on (rw v at absent)))
 
     offset : a.span.offset ≡ b.span.offset

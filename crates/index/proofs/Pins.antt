@@ -1,5 +1,6 @@
 -- The lines of a walk are pinned to the sections told, and there is one for each section 7: down the list of sections, by what is in
 -- force at each stand.
+use Rattle.std.specs.Prelude.{Some, None}
 use Prim.Native.Nat.{ℕ, zero, suc, ◌+◌, ◌-◌, ◌≤◌}
 use native.Mathlib.Omega.{arith}
 use mathlib.Core.Path.{◌≡◌, refl, sym, ap, ap₂, subst, ◌∙◌}
@@ -20,7 +21,6 @@ use Rattle.order.specs.declared.Judged.{Judged}
 use Rattle.order.specs.declared.Judged.TheVariants as says
 use Rattle.order.proofs.Laws.{closes_only, no_grid_only, completes_only}
 use Rattle.index.specs.Lines.{place, line_of}
-use Rattle.index.specs.declared.line.MessageEnd.TheVariants.{GoesOn, ClosedAt}
 use Rattle.index.specs.declared.line.Line.{Line}
 use Rattle.index.specs.declared.bounds.Room.{Room}
 use Rattle.index.specs.Walk.{
@@ -124,7 +124,7 @@ module _ (told : List Section) (r : Reached) (s : Section) (force : InForce r.fi
         one = refl;
         same_file = refl;
         pins = (
-          line_of_lem r.file told force order (ClosedAt (place r.sections)) (λ there. refl)
+          line_of_lem r.file told force order (Some (place r.sections)) (λ there. refl)
               (λ absent. absurd (absent (rw eight at (by_number told here)))),
           tt,
         );
@@ -152,17 +152,17 @@ module _ (told : List Section) (r : Reached) (s : Section) (force : InForce r.fi
     order = (completes_only r.order s.number on).0
 
     -- its line stands where the section is refused
-    spoken : (n : ℕ) → AfterCompleting n → drop r.sections told ≡ [] → Stopped (line_of r.force GoesOn ∷ []) n
+    spoken : (n : ℕ) → AfterCompleting n → drop r.sections told ≡ [] → Stopped (line_of r.force None ∷ []) n
     unfolding line_of
     spoken n after end =
         let (next, i) = in_hand_lem r.file told force order in
         record {
-          pins = (line_of_lem r.file told force order GoesOn (λ there. absurd (none_told told 8 r.sections end there)) (λ absent. refl), tt);
+          pins = (line_of_lem r.file told force order None (λ there. absurd (none_told told 8 r.sections end there)) (λ absent. refl), tt);
           told_7 = inl (ap (λ (o : Order). held (waiting o) r.sections) order ∙ ap (λ (k : ℕ). k ∷ []) (omega arith), λ one. after);
         }
 
     going : (room : Room) (j : Judged) → judged SubmessageStart s.number ≡ j
-        → Pins (by_order j room (gone_on r) s (line_of r.force GoesOn ∷ []))
+        → Pins (by_order j room (gone_on r) s (line_of r.force None ∷ []))
     unfolding by_order fitted refusal_number line_of completes
     going room (says.Fits next) e =
         let fits = fitting SubmessageStart s.number refl e in
@@ -173,7 +173,7 @@ module _ (told : List Section) (r : Reached) (s : Section) (force : InForce r.fi
           one = refl;
           same_file = refl;
           pins = (
-            line_of_lem r.file told force order GoesOn
+            line_of_lem r.file told force order None
                 (λ there. absurd ((completes_only r.order s.number on).1 (sym (by_number told here).1 ∙ there.1)))
                 (λ absent. refl),
             tt,

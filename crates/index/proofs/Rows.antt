@@ -1,5 +1,6 @@
 -- The rows that a walk tells begin the file's listing, so that they are laid out as it is; they are all of it where the input is over, and
 -- where a section is refused it is the next.
+use Rattle.std.specs.Prelude.{Err}
 use Prim.Native.Nat.{ℕ, ◌≤◌}
 use native.Mathlib.Omega.{arith}
 use mathlib.Core.Path.{◌≡◌, refl, sym, ap, subst, ◌∙◌}
@@ -23,7 +24,6 @@ use Rattle.order.specs.declared.Judged.{Judged}
 use Rattle.order.specs.declared.Judged.TheVariants as says
 use Rattle.index.specs.declared.line.Line.{Line}
 use Rattle.index.specs.declared.refusal.Refusal.{Refusal}
-use Rattle.index.specs.declared.refusal.Outcome.TheVariants as outcome
 use Rattle.index.specs.declared.bounds.Room.{Room}
 use Rattle.index.specs.Walk.{
   Reached,
@@ -44,6 +44,7 @@ use Rattle.index.specs.Walk.{
 }
 use Rattle.index.specs.Numbers.{fault_number, refusal_number, end_of}
 use Rattle.index.specs.Pins.{RowsAreLaidOut, OverTellsAll, StandsNext, JustReadStandsNext}
+use Rattle.index.specs.Outcome.{refused_there}
 
 -- a section that can't be read is 2 to 9
 pub fault_number_lem : (fault : Fault) → (2 ≤ fault_number fault) × (fault_number fault ≤ 9)
@@ -95,7 +96,7 @@ judgement_number room r s =
 data Tells (all : List Section) (ending : Ending) (t : Told) : Type 0 where
   all_told : t.sections ≡ all → EndNumber ending (end_of t.outcome).outcome → Tells all ending t
   stopped : (s : Section) (more : List Section) (why : Refusal) (p : Place) → all ≡ t.sections ++ (s ∷ more)
-      → t.outcome ≡ outcome.Refused why p s.offset → 11 ≤ refusal_number why → Tells all ending t
+      → t.outcome ≡ Err (refused_there why p s.offset) → 11 ≤ refusal_number why → Tells all ending t
 
 tells : (room : Room) (r : Reached) (all : List Section) (ending : Ending) → Tells all ending (walked_from room r all ending)
 unfolding walked_from
@@ -131,7 +132,7 @@ rows_are_laid_out room file = go (walked room file) (whole room file)
     go t (inr (stopped s more why p e f n)) =
         beginning_is_laid_out t.sections (s ∷ more) (subst (LaidOut file 0 0) e (listing_is_laid_out file))
 
-refused_end : (t : Told) (why : Refusal) (p : Place) (o : Offset) → t.outcome ≡ outcome.Refused why p o
+refused_end : (t : Told) (why : Refusal) (p : Place) (o : Offset) → t.outcome ≡ Err (refused_there why p o)
     → ((end_of t.outcome).outcome ≡ refusal_number why) × ((end_of t.outcome).offset ≡ o.0)
 unfolding end_of
 refused_end t why p o e = (ap (λ how. (end_of how).outcome) e, ap (λ how. (end_of how).offset) e)

@@ -1,5 +1,5 @@
 -- What is decoded of a file's sections, one by one (01, "Fields").
-use Rattle.std.specs.Prelude.{ℕ, List, [], ◌∷◌, eqb, take, drop}
+use Rattle.std.specs.Prelude.{ℕ, List, [], ◌∷◌, eqb, take, drop, Option}
 use Rattle.octets.specs.Words.{pick}
 use Rattle.sections.specs.Kinds as kinds
 use Rattle.sections.specs.Indicator.{indicator_of}
@@ -8,16 +8,16 @@ use Rattle.sections.specs.GridDefinition.{grid_definition_of}
 use Rattle.sections.specs.ProdDefinition.{prod_definition_of}
 use Rattle.sections.specs.ReprDefinition.{repr_definition_of}
 use Rattle.sections.specs.BitMap.{bit_map_of}
-use Rattle.sections.specs.declared.indicator.MaybeIndicator.{MaybeIndicator}
-use Rattle.sections.specs.declared.identification.MaybeIdentification.{MaybeIdentification}
-use Rattle.sections.specs.declared.grid_definition.MaybeGridDefinition.{MaybeGridDefinition}
-use Rattle.sections.specs.declared.prod_definition.MaybeProdDefinition.{MaybeProdDefinition}
-use Rattle.sections.specs.declared.repr_definition.MaybeReprDefinition.{MaybeReprDefinition}
-use Rattle.sections.specs.declared.bit_map.MaybeBitMap.{MaybeBitMap}
 use Rattle.products.specs.Products.{product_of}
 use Rattle.products.specs.declared.templates.TemplateReading.{TemplateReading}
 use Rattle.products.specs.declared.Product.{Product}
 use Rattle.framing.specs.declared.read.Section.{Section}
+use Rattle.sections.specs.declared.repr_definition.ReprDefinition.{ReprDefinition}
+use Rattle.sections.specs.declared.identification.Identification.{Identification}
+use Rattle.sections.specs.declared.grid_definition.GridDefinition.{GridDefinition}
+use Rattle.sections.specs.declared.bit_map.BitMap.{BitMap}
+use Rattle.sections.specs.declared.indicator.Indicator.{Indicator}
+use Rattle.sections.specs.declared.prod_definition.ProdDefinition.{ProdDefinition}
 
 -- a section's own octets
 unfoldable pub own_octets : List ℕ → Section → List ℕ
@@ -29,7 +29,7 @@ payload_of file s = drop kinds.header_size (own_octets file s)
 
 -- what a section 4 says: its own fields, and the product fields by either reading
 pub record ProductSection : Type 0 where
-  pub definition : MaybeProdDefinition
+  pub definition : Option ProdDefinition
   pub product : TemplateReading → Product
 
 unfoldable pub product_section_of : List ℕ → ProductSection
@@ -38,12 +38,12 @@ product_section_of s =
 
 -- the decoded fields of a section; sections 2, 7 and 8 have none
 pub data SectionFields : Type 0 where
-  of_indicator : MaybeIndicator → SectionFields
-  of_identification : MaybeIdentification → SectionFields
-  of_grid : MaybeGridDefinition → SectionFields
+  of_indicator : Option Indicator → SectionFields
+  of_identification : Option Identification → SectionFields
+  of_grid : Option GridDefinition → SectionFields
   of_product : ProductSection → SectionFields
-  of_representation : MaybeReprDefinition → SectionFields
-  of_bit_map : MaybeBitMap → SectionFields
+  of_representation : Option ReprDefinition → SectionFields
+  of_bit_map : Option BitMap → SectionFields
   of_none : SectionFields
 
 -- by its number

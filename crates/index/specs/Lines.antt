@@ -1,12 +1,9 @@
 -- A submessage's line, and the sections in force that it is made of (01, "Order").
-use Rattle.std.specs.Prelude.{ℕ, List, eqb, ltb, get_or, set, replicate}
+use Rattle.std.specs.Prelude.{ℕ, List, eqb, ltb, get_or, set, replicate, Option, Some, None}
 use Rattle.octets.specs.Words.{pick}
 use Rattle.sections.specs.Kinds as kinds
 use Rattle.framing.specs.declared.read.Offset.{Offset}
 use Rattle.order.specs.declared.Place.{Place}
-use Rattle.index.specs.declared.line.LocalUsePlace.{LocalUsePlace}
-use Rattle.index.specs.declared.line.LocalUsePlace.TheVariants.{At, Absent}
-use Rattle.index.specs.declared.line.MessageEnd.{MessageEnd}
 use Rattle.index.specs.declared.line.Span.{Span}
 use Rattle.index.specs.declared.line.Force.{Force}
 use Rattle.index.specs.declared.line.Line.{Line}
@@ -39,7 +36,7 @@ opened message =
       message = message;
       submessage = 0;
       span = span (record { 0 = 0 }) 0;
-      local = Absent;
+      local = None;
       places = every_place (place 0);
     }
 
@@ -55,7 +52,7 @@ with_span f span =
     }
 
 -- the same, with another section 2
-abbrev pub with_local : Force → LocalUsePlace → Force
+abbrev pub with_local : Force → Option Place → Force
 with_local f local =
     record {
       message = f.message;
@@ -80,7 +77,7 @@ with_places f places =
 -- section is never in force
 unfoldable pub in_force : Force → ℕ → Place → Force
 in_force f number here =
-    pick (eqb number (kinds.local_use).number) (with_local f (At here))
+    pick (eqb number (kinds.local_use).number) (with_local f (Some here))
     (pick (ltb number (kinds.end_section).number) (with_places f (set f.places number here))
     f)
 
@@ -96,7 +93,7 @@ with_submessage f submessage =
     }
 
 -- the line of the submessage in hand, by what stands behind it
-unfoldable pub line_of : Force → MessageEnd → Line
+unfoldable pub line_of : Force → Option Place → Line
 line_of f end =
     record {
       message = f.message;

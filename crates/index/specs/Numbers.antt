@@ -1,14 +1,13 @@
 -- Document 01's number and detail of each refusal, the outcome, place, offset and detail of each
 -- end, and the octets written (01, "Refusal numbers").
-use Rattle.std.specs.Prelude.{ℕ}
+use Rattle.std.specs.Prelude.{ℕ, Ok, Err}
 use Rattle.framing.specs.declared.read.Fault.{Fault}
 use Rattle.framing.specs.declared.read.Fault.TheVariants as fault
 use Rattle.index.specs.declared.numbers.End.{End}
 use Rattle.index.specs.declared.numbers.StoreEnd.{StoreEnd}
 use Rattle.index.specs.declared.refusal.Refusal.{Refusal}
 use Rattle.index.specs.declared.refusal.Refusal.TheVariants as refusal
-use Rattle.index.specs.declared.refusal.Outcome.{Outcome}
-use Rattle.index.specs.declared.refusal.Outcome.TheVariants as outcome
+use Rattle.index.specs.Outcome.{Outcome}
 
 -- 2 to 9
 unfoldable pub fault_number : Fault → ℕ
@@ -52,18 +51,18 @@ refusal_detail refusal.SubmessageTableFull = 0
 
 -- at 0 the last three are 0
 unfoldable pub end_of : Outcome → End
-end_of outcome.Clean = record { outcome = 0; place = 0; offset = 0; detail = 0 }
-end_of (outcome.Refused why place offset) =
+end_of (Ok tt) = record { outcome = 0; place = 0; offset = 0; detail = 0 }
+end_of (Err stop) =
     record {
-      outcome = refusal_number why;
-      place = place.0;
-      offset = offset.0;
-      detail = refusal_detail why;
+      outcome = refusal_number stop.why;
+      place = stop.place.0;
+      offset = stop.offset.0;
+      detail = refusal_detail stop.why;
     }
 
 -- for the copy, the writer and the inventory an answer is these four and the octets written
 unfoldable pub stored : ℕ → StoreEnd
-stored octets = record { end = end_of outcome.Clean; written = octets }
+stored octets = record { end = end_of (Ok tt); written = octets }
 
 -- for 1 and 15 to 20 place and offset are zeros; a refusal writes nothing
 unfoldable pub unplaced : ℕ → ℕ → StoreEnd

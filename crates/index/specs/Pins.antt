@@ -2,19 +2,17 @@
 -- any file and any room: rows are sections as they stand in the file, and a line holds the last
 -- section of each number before its section 7. The statements are proved in proofs/Rows, Pins and
 -- OneLine.antt, under their names in small letters.
-use Rattle.std.specs.Prelude.{ℕ, ◌+◌, ◌≤◌, ◌<◌, ◌≡◌, List, [], ◌∷◌, ◌++◌, map, ◌⊎◌, eqb, length, get_or, take, drop}
+use Rattle.std.specs.Prelude.{ℕ, ◌+◌, ◌≤◌, ◌<◌, ◌≡◌, List, [], ◌∷◌, ◌++◌, map, ◌⊎◌, eqb, length, get_or, take, drop, Option, Some, None}
 use Rattle.octets.specs.Words.{pick, Not}
 use Rattle.octets.specs.BigEndian.{be_at}
 use Rattle.framing.specs.LaidOut.{LaidOut}
 use Rattle.framing.specs.declared.read.Section.{Section}
 use Rattle.index.specs.Lines.{place, unlisted}
-use Rattle.index.specs.declared.line.LocalUsePlace.{LocalUsePlace}
-use Rattle.index.specs.declared.line.LocalUsePlace.TheVariants.{At, Absent}
-use Rattle.index.specs.declared.line.MessageEnd.TheVariants.{GoesOn, ClosedAt}
 use Rattle.index.specs.declared.line.Line.{Line}
 use Rattle.index.specs.declared.bounds.Room.{Room}
 use Rattle.index.specs.Walk.{walked}
 use Rattle.index.specs.Numbers.{end_of}
+use Rattle.order.specs.declared.Place.{Place}
 
 -- it is so of each
 abbrev pub Every : {A : Type 0} → (A → Type 0) → List A → Type 0
@@ -62,9 +60,9 @@ pub record LastBefore (told : List Section) (number from v p : ℕ) : Type 0 whe
   pub last : (k : ℕ) → p < k → k < v → Not (ToldAt told number k)
 
 -- the same of section 2, which may be absent
-abbrev pub LocalBefore : List Section → ℕ → ℕ → LocalUsePlace → Type 0
-LocalBefore told from v (At p) = LastBefore told 2 from v p.0
-LocalBefore told from v Absent = (k : ℕ) → from ≤ k → k < v → Not (ToldAt told 2 k)
+abbrev pub LocalBefore : List Section → ℕ → ℕ → Option Place → Type 0
+LocalBefore told from v (Some p) = LastBefore told 2 from v p.0
+LocalBefore told from v None = (k : ℕ) → from ≤ k → k < v → Not (ToldAt told 2 k)
 
 -- how many sections of a list have the number
 abbrev pub count_of : ℕ → List Section → ℕ
@@ -90,8 +88,8 @@ pub record PinnedLine (file : List ℕ) (told : List Section) (line : Line) : Ty
       line.submessage ≡ count_of 7 (drop line.indicator.0 (take line.values.0 told))
   -- it is closed at the next place where a section 8 is told there, and elsewhere goes on
   pub closed : ToldAt told 8 (line.values.0 + 1)
-      → line.end ≡ ClosedAt (place (line.values.0 + 1))
-  pub goes_on : Not (ToldAt told 8 (line.values.0 + 1)) → line.end ≡ GoesOn
+      → line.end ≡ Some (place (line.values.0 + 1))
+  pub goes_on : Not (ToldAt told 8 (line.values.0 + 1)) → line.end ≡ None
   -- its message's octet offset is that of this section 0, which states the total length
   pub offset : line.span.offset ≡ (told_at told line.indicator.0).offset
   pub total : line.span.total ≡ be_at file (line.span.offset.0 + 8) 8

@@ -1,7 +1,7 @@
 -- What a walk tells of a file: its section lines, its submessage lines, how many messages it
 -- closes, and how it ends (01, "Order", "Refusal numbers"). It goes down the file's listing, with
 -- room for so many rows and lines.
-use Rattle.std.specs.Prelude.{ℕ, ◌+◌, List, [], ◌∷◌, ◌++◌, eqb, ltb, leb, length}
+use Rattle.std.specs.Prelude.{ℕ, ◌+◌, List, [], ◌∷◌, ◌++◌, eqb, ltb, leb, length, Some, None, Ok, Err}
 use Rattle.octets.specs.Words.{pick}
 use Rattle.octets.specs.BigEndian.{be_at}
 use Rattle.sections.specs.Kinds as kinds
@@ -24,17 +24,15 @@ use Rattle.index.specs.Lines.{
   with_submessage,
   line_of,
 }
-use Rattle.index.specs.declared.line.MessageEnd.TheVariants.{GoesOn, ClosedAt}
 use Rattle.index.specs.declared.line.Span.{Span}
 use Rattle.index.specs.declared.line.Force.{Force}
 use Rattle.index.specs.declared.line.Line.{Line}
 use Rattle.index.specs.declared.refusal.Refusal.{Refusal}
 use Rattle.index.specs.declared.refusal.Refusal.TheVariants as refusal
-use Rattle.index.specs.declared.refusal.Outcome.{Outcome}
-use Rattle.index.specs.declared.refusal.Outcome.TheVariants as outcome
 use Rattle.index.specs.declared.listed.Listed.{Listed}
 use Rattle.index.specs.Bounds.{most_octets}
 use Rattle.index.specs.declared.bounds.Room.{Room}
+use Rattle.index.specs.Outcome.{Outcome, refused_there}
 
 -- what stands before a section: the file that is walked, how many sections and lines are told, the
 -- section told last, what was read last, what is in force
@@ -101,7 +99,7 @@ unfoldable pub closing : Room → Reached → Section → Judgement
 closing room r s =
     pick (leb room.rows r.sections) (stops [] refusal.SectionTableFull)
     (pick (leb room.lines r.lines) (stops [] refusal.SubmessageTableFull)
-    (passes (line_of r.force (ClosedAt (place r.sections)) ∷ []) 1
+    (passes (line_of r.force (Some (place r.sections)) ∷ []) 1
     (record {
       file = r.file;
       sections = r.sections + 1;
@@ -137,7 +135,7 @@ judgement room r s =
     pick (completes r.order s.number)
     (pick (leb room.lines r.lines) (stops [] refusal.SubmessageTableFull)
     (by_order (judged SubmessageStart s.number) room (gone_on r) s
-    (line_of r.force GoesOn ∷ [])))
+    (line_of r.force None ∷ [])))
     (by_order (judged r.order s.number) room r s [])
 
 -- what a walk tells
@@ -155,10 +153,10 @@ ends outcome = record { sections = []; lines = []; messages = 0; outcome = outco
 -- offset; a section that can't be read has the place that it would have
 unfoldable pub concluded : Reached → Ending → Outcome
 concluded r over =
-    pick (is_between r.order) outcome.Clean
-    (outcome.Refused refusal.InputOver r.last.place r.last.section.offset)
+    pick (is_between r.order) (Ok tt)
+    (Err (refused_there refusal.InputOver r.last.place r.last.section.offset))
 concluded r (unreadable fault offset) =
-    outcome.Refused (refusal.Unreadable fault) (place r.sections) offset
+    Err (refused_there (refusal.Unreadable fault) (place r.sections) offset)
 
 -- a section, and what the walk tells after it; a refused section is not listed, and what it
 -- completed stands
@@ -168,7 +166,7 @@ followed r s (stops lines why) later =
       sections = [];
       lines = lines;
       messages = 0;
-      outcome = outcome.Refused why (place r.sections) s.offset;
+      outcome = Err (refused_there why (place r.sections) s.offset);
     }
 followed r s (passes lines closed reached) later =
     let rest = later reached in
@@ -189,5 +187,5 @@ walked_from room r (s ∷ more) ending =
 unfoldable pub walked : Room → List ℕ → Told
 walked room file =
     pick (ltb most_octets (length file))
-    (ends (outcome.Refused refusal.FileTooLong (place 0) (record { 0 = 0 })))
+    (ends (Err (refused_there refusal.FileTooLong (place 0) (record { 0 = 0 }))))
     (walked_from room (at_start file) (listing file).sections (listing file).ending)

@@ -10,10 +10,7 @@ mod numbers;
 mod refusal;
 
 pub use bounds::{MOST_OCTETS, Room};
-pub use line::{
-    Force, Line, LocalUsePlace, MessageEnd, Span, in_force, line_of, opened, with_span,
-    with_submessage,
-};
+pub use line::{Force, KEPT, Line, Span, in_force, line_of, opened, with_span, with_submessage};
 pub use listed::{Listed, unlisted};
 pub use numbers::{End, StoreEnd, end_of, stored, unplaced};
-pub use refusal::{Outcome, Refusal};
+pub use refusal::{Outcome, Refusal, Refused};

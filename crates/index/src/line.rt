@@ -11,27 +11,13 @@ use sections::{
 };
 
 // Section numbers that a place is kept for: all but the end section's.
-const KEPT: usize = 8;
-
-// The place of section 2, which a submessage may not have.
-#[derive(Clone, Copy)]
-pub enum LocalUsePlace {
-    At(Place),
-    Absent,
-}
+pub const KEPT: usize = 8;
 
 // Where a message stands: the octet offset of its section 0, and the total length stated there.
 #[derive(Clone, Copy)]
 pub struct Span {
     pub offset: Offset,
     pub total: u64,
-}
-
-// What stands behind a submessage: more of its message, or the section 8 that closes it.
-#[derive(Clone, Copy)]
-pub enum MessageEnd {
-    GoesOn,
-    ClosedAt(Place),
 }
 
 // A line of the submessage table.
@@ -41,13 +27,13 @@ pub struct Line {
     pub submessage: u64,
     pub indicator: Place,
     pub identification: Place,
-    pub local: LocalUsePlace,
+    pub local: Option<Place>,
     pub grid: Place,
     pub product: Place,
     pub representation: Place,
     pub bitmap: Place,
     pub values: Place,
-    pub end: MessageEnd,
+    pub end: Option<Place>,
     // Its message's.
     pub span: Span,
 }
@@ -59,7 +45,7 @@ pub struct Force {
     pub message: u64,
     pub submessage: u64,
     pub span: Span,
-    pub local: LocalUsePlace,
+    pub local: Option<Place>,
     pub places: [Place; KEPT],
 }
 
@@ -74,7 +60,7 @@ pub fn opened(message: u64) -> Force
             offset: Offset(0),
             total: 0,
         },
-        local: LocalUsePlace::Absent,
+        local: None,
         places: [Place(0); KEPT],
     }
 }
@@ -90,7 +76,7 @@ pub fn in_force(mut force: Force, number: u64, here: Place) -> Force
             message: force.message,
             submessage: force.submessage,
             span,
-            local: LocalUsePlace::At(here),
+            local: Some(here),
             places,
         };
     }
@@ -118,7 +104,7 @@ pub fn with_submessage(mut force: Force, submessage: u64) -> Force
 }
 
 // The line of the submessage in hand: what is in force, with what stands behind it.
-pub fn line_of(force: Force, end: MessageEnd) -> Line
+pub fn line_of(force: Force, end: Option<Place>) -> Line
     ensures { result ≡ line_of force end }
 {
     let span = force.span;

@@ -11,7 +11,7 @@ ghost use Rattle.index.specs.Numbers.{
   unplaced,
 };
 
-use crate::refusal::{Outcome, Refusal};
+use crate::refusal::{Outcome, Refusal, Refused};
 use framing::Fault;
 
 // How a walk ended, in numbers.
@@ -95,13 +95,13 @@ pub fn end_of(outcome: Outcome) -> End
     ensures { result ≡ end_of outcome }
 {
     match outcome {
-        Outcome::Clean => End {
+        Ok(()) => End {
             outcome: 0,
             place: 0,
             offset: 0,
             detail: 0,
         },
-        Outcome::Refused(why, place, offset) => End {
+        Err(Refused { why, place, offset }) => End {
             outcome: refusal_number(why),
             place: place.0,
             offset: offset.0,
@@ -115,7 +115,7 @@ pub fn stored(octets: u64) -> StoreEnd
     ensures { result ≡ stored octets }
 {
     StoreEnd {
-        end: end_of(Outcome::Clean),
+        end: end_of(Ok(())),
         written: octets,
     }
 }

@@ -1,4 +1,5 @@
 -- Each line of a walk has its entry, of the sections 0 and 4 at its places and of their octets.
+use Rattle.std.specs.Prelude.{Some}
 use Prim.Native.Nat.{ℕ, zero, suc, ◌+◌, ◌-◌, ◌≤◌}
 use native.Mathlib.Omega.{arith}
 use mathlib.Core.Path.{◌≡◌, refl, sym, ap, ◌∙◌}
@@ -9,7 +10,6 @@ use borrow.Author.Tests.{le-ltb}
 use Rattle.octets.specs.BigEndian.{be_at}
 use Rattle.sections.specs.Indicator.{indicator_of}
 use Rattle.sections.specs.declared.indicator.Indicator.{Indicator}
-use Rattle.sections.specs.declared.indicator.MaybeIndicator.TheVariants.{Fields}
 use Rattle.products.specs.Products.{category_of, parameter_of, forecast_of, fixed_of, product_of}
 use Rattle.products.specs.declared.templates.TemplateReading.TheVariants.{ByManual}
 use Rattle.framing.specs.LaidOut.{LaidOut, nothing_more, indicator_next, end_next, headed_next}
@@ -76,7 +76,7 @@ module _ (file : List ℕ) where
   }
 
   indicator_says : (s : Section) → WholeIndicator s
-      → indicator_of (own_octets file s) ≡ Fields (said_by s)
+      → indicator_of (own_octets file s) ≡ Some (said_by s)
   unfolding indicator_of own_octets
   indicator_says s (size, room) =
       let own = take s.length (drop s.offset.0 file) in

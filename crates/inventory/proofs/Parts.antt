@@ -5,7 +5,7 @@ use Prim.Native.Nat.{ℕ, ◌+◌, ◌-◌, ◌≤◌, ◌<◌}
 use native.Mathlib.Nat.{le_refl}
 use native.Mathlib.Omega.{arith}
 use lib.ListN.{length, take, drop, length-append, length-drop, drop_of_length-le}
-use lib.Seq.{take_all, drop-length, take-nil, length-take-le, take_at, drop_at, drop-drop}
+use lib.Seq.{take_all, drop-length, take-nil, take_at, drop_at, drop-drop}
 use Rattle.inventory.specs.Lines.{put_in_text}
 
 -- past the end there is nothing
@@ -27,12 +27,6 @@ to_end_part s at n h = rw (to_end, take_all n (drop at s) (simp length-drop (ome
 -- a part in the middle
 pub middle : (s : List ℕ) (at n : ℕ) → take (at + n - at) (drop at s) ≡ take n (drop at s)
 middle s at n = let same : at + n - at ≡ n = omega arith in rw same
-
--- octets put into a text leave its length
-pub written_length : (text : List ℕ) (at : ℕ) (octets : List ℕ) → at + length octets ≤ length text
-    → length (put_in_text text at octets) ≡ length text
-unfolding put_in_text
-written_length text at octets room = simp (length-append, length-take-le at text (omega arith), length-drop) (omega arith)
 
 -- what is put right after some octets is put with them
 pub written_more : (text : List ℕ) (first then : List ℕ) → length first ≤ length text

@@ -1,5 +1,6 @@
 -- What the loop remembers is what is in force: the numbers, and the sections 0 and 4 that stand at
 -- the places kept. So the entry of what is remembered is that of the line.
+use Rattle.std.specs.Prelude.{Option, Some, None}
 use Prim.Native.Nat.{ℕ, zero, suc, ◌+◌, ◌<◌}
 use native.Mathlib.Omega.{arith}
 use mathlib.Core.Path.{◌≡◌, refl, sym, ap, subst₂, ◌∙◌}
@@ -11,8 +12,6 @@ use lib.Seq.{get_or-set_same, get_or-set_other}
 use borrow.Author.Tests.{eqb-true, eqb-false, eq-eqb, ne_eqb, ltb-false}
 use Rattle.octets.specs.Words.{Not}
 use Rattle.sections.specs.Indicator.{indicator_of}
-use Rattle.sections.specs.declared.indicator.MaybeIndicator.{MaybeIndicator}
-use Rattle.sections.specs.declared.indicator.MaybeIndicator.TheVariants.{Fields, NoIndicator}
 use Rattle.products.specs.Products.{product_of}
 use Rattle.products.specs.declared.templates.TemplateReading.TheVariants.{ByManual}
 use Rattle.products.specs.declared.Product.{Product}
@@ -24,7 +23,6 @@ use Rattle.order.specs.declared.Order.{Order}
 use Rattle.order.specs.declared.Order.TheVariants.{BetweenMessages, AfterData, SubmessageStart}
 use Rattle.index.specs.Lines.{place, opened, in_force, with_submessage, line_of}
 use Rattle.index.specs.Walk.{span_at, span_behind, comes_in_force}
-use Rattle.index.specs.declared.line.MessageEnd.{MessageEnd}
 use Rattle.index.specs.Decoded.{
   SectionFields,
   of_indicator,
@@ -50,6 +48,7 @@ use Rattle.inventory.specs.Inventory.{
 use Rattle.inventory.specs.Memory.{memory_of, with_section}
 use Rattle.inventory.specs.Lines.{entries_in}
 use Rattle.inventory.specs.declared.memory.Memory.{Memory}
+use Rattle.sections.specs.declared.indicator.Indicator.{Indicator}
 
 -- a section comes in force at a place, and other places stay
 module _ (f : Force) (n : ℕ) (c : ℕ) where
@@ -255,14 +254,14 @@ fields_4 file s e = rw e
 
 -- the entry of the line of what is in force
 module _ (file : List ℕ) (told : List Section) where
-  from_one : (line : Line) (indicator : MaybeIndicator) (product : Product)
+  from_one : (line : Line) (indicator : Option Indicator) (product : Product)
       → (for_each (for_each (of_indicator indicator ∷ []) indicator_in) λ i.
       for_each (product ∷ []) λ p.
       entry_with line i p ∷ [])
       ≡ for_each (indicator_in (of_indicator indicator)) λ i. entry_with line i product ∷ []
   unfolding indicator_in
-  from_one line (Fields i) product = refl
-  from_one line NoIndicator product = refl
+  from_one line (Some i) product = refl
+  from_one line None product = refl
 
   -- where these stand at its places
   from_lists : (line : Line) (z p : Section) (zeroths fourths : List SectionFields)
@@ -294,7 +293,8 @@ module _ (file : List ℕ) (told : List Section) where
       ∙ ap (λ (x : SectionFields). x ∷ []) (fields_4 file p fourth.number_is))
 
   -- is that of what is remembered
-  pub remembered_entry : {f : Force} {m : Memory} (end : MessageEnd) → Remembered told AfterData f m
+  pub remembered_entry : {f : Force} {m : Memory} (end : Option Place)
+      → Remembered told AfterData f m
       → entry_at (decoded file told) (line_of f end) ≡ entries_in file m
   unfolding line_of entries_in is_between
   remembered_entry {f} {m} end k =

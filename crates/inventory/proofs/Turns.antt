@@ -1,4 +1,5 @@
 -- The turns of the loop: so far the lines told are written, and what is remembered makes the next one.
+use Rattle.std.specs.Prelude.{Some, None, Ok, Err}
 use Prim.Native.Nat.{ℕ, ◌+◌, ◌*◌, ◌-◌, ◌≤◌, ◌<◌}
 use native.Mathlib.Omega.{arith}
 use mathlib.Core.Path.{◌≡◌, refl, sym, ap, ap₂, subst, ◌∙◌}
@@ -9,27 +10,22 @@ use borrow.Author.Tests.{eq-eqb, ne_eqb}
 use Rattle.octets.specs.Words.{Not}
 use Rattle.framing.specs.declared.read.Section.{Section}
 use Rattle.framing.specs.declared.read.Cursor.{Cursor}
-use Rattle.framing.specs.declared.read.Offset.{Offset}
 use Rattle.framing.proofs.OneRead.{goes}
 use Rattle.framing.proofs.Tests.{never_both}
 use Rattle.order.specs.Order.{judged, completes, is_between}
-use Rattle.order.specs.declared.Place.{Place}
 use Rattle.order.specs.declared.Order.{Order}
 use Rattle.order.specs.declared.Order.TheVariants.{BetweenMessages, AfterData, SubmessageStart}
 use Rattle.order.specs.declared.Judged.{Judged}
 use Rattle.order.specs.declared.Judged.TheVariants as says
 use Rattle.order.proofs.Laws.{closes_only, completes_only, starts_next}
 use Rattle.index.specs.Lines.{place, unlisted, opened, line_of}
-use Rattle.index.specs.declared.line.MessageEnd.TheVariants.{GoesOn, ClosedAt}
 use Rattle.index.specs.Bounds.{most_octets, unlimited}
 use Rattle.index.specs.Walk.{Reached, at_start, comes_in_force, gone_on, Told, walked}
 use Rattle.index.specs.Decoded.{decoded}
 use Rattle.index.specs.declared.line.Force.{Force}
 use Rattle.index.specs.declared.line.Line.{Line as SubmessageLine}
 use Rattle.index.specs.declared.listed.Listed.{Listed}
-use Rattle.index.specs.declared.refusal.Refusal.{Refusal}
-use Rattle.index.specs.declared.refusal.Outcome.{Outcome}
-use Rattle.index.specs.declared.refusal.Outcome.TheVariants.{Clean, Refused}
+use Rattle.index.specs.declared.refusal.Refused.{Refused}
 use Rattle.index.proofs.Counted.{next_told}
 use Rattle.index.proofs.Fitting.{Fitting, fitting}
 use Rattle.reading.specs.Reading.{reading, start, seen}
@@ -50,14 +46,17 @@ use Rattle.inventory.specs.declared.turn.Due.TheVariants.{NoLine, Line, LastLine
 use Rattle.inventory.specs.declared.memory.Memory.{Memory}
 use Rattle.inventory.proofs.Parts.{written_more}
 use Rattle.inventory.proofs.Remembered.{memory_numbers, Remembered, comes, goes_on, closes, remembered_entry}
+use Rattle.index.specs.Outcome.{Outcome}
 
 -- what is in force behind a section, and the lines told because of it, by what was due
 pub data DueOf (r : Reached) (s : Section) (next : Order) : Due → Force → List SubmessageLine → Type 0 where
   none : Fitting s.number r.order next → DueOf r s next NoLine (comes_in_force r.file r.force s (place r.sections)) []
   one : r.order ≡ AfterData → Fitting s.number SubmessageStart next
-      → DueOf r s next Line (comes_in_force r.file (gone_on r).force s (place r.sections)) (line_of r.force GoesOn ∷ [])
+      → DueOf r s next Line (comes_in_force r.file (gone_on r).force s (place r.sections))
+      (line_of r.force None ∷ [])
   last : r.order ≡ AfterData → next ≡ BetweenMessages
-      → DueOf r s next LastLine (opened (r.force.message + 1)) (line_of r.force (ClosedAt (place r.sections)) ∷ [])
+      → DueOf r s next LastLine (opened (r.force.message + 1))
+      (line_of r.force (Some (place r.sections)) ∷ [])
 
 -- a section that fits does not close its message
 fits_or_closes : {j : Judged} {next : Order} → j ≡ says.Fits next → j ≡ says.Closes → ⊥
@@ -102,9 +101,11 @@ module _ (file : List ℕ) where
   unfolding due_entries
   due_entries_lem (none fits) k = refl
   due_entries_lem {r} {m = m} (one order fits) k =
-      append-nil _ ∙ remembered_entry file told GoesOn (subst (λ (o : Order). Remembered told o r.force m) order k)
+      append-nil _ ∙ remembered_entry file told None
+      (subst (λ (o : Order). Remembered told o r.force m) order k)
   due_entries_lem {r} {m = m} (last order between) k =
-      append-nil _ ∙ remembered_entry file told (ClosedAt (place r.sections)) (subst (λ (o : Order). Remembered told o r.force m) order k)
+      append-nil _ ∙ remembered_entry file told (Some (place r.sections))
+      (subst (λ (o : Order). Remembered told o r.force m) order k)
 
   -- and the section is remembered
   due_remembered : {r : Reached} {s : Section} {next : Order} {due : Due} {f : Force} {lines : List SubmessageLine} {m : Memory}
@@ -160,7 +161,7 @@ remembering {file} {text₀} {at} {count} {before} {octets = octets} {text = tex
     subst (λ (x : Memory). Listing file text₀ at count before x octets text) e k
 
 -- a refusal is no clean end
-unclean : {why : Refusal} {at : Place} {offset : Offset} → Refused why at offset ≡ Clean → ⊥
+unclean : {stop : Refused} → ◌≡◌ {A = Outcome} (Err stop) (Ok tt) → ⊥
 unclean e = let z : ◌≡◌ {A = ℕ} 0 1 = cc in omega arith
 
 -- what a turn tells of the walk
@@ -201,7 +202,7 @@ remembers_none m s other another = rw (ne_eqb s.number 0 other, ne_eqb s.number 
 
 pub record Over (told : Told) (o : Outcome) : Type 0 where
   pub ends : told.outcome ≡ o
-  pub no_lines : o ≡ Clean → told.lines ≡ []
+  pub no_lines : o ≡ Ok tt → told.lines ≡ []
 
 -- by what is seen
 abbrev By : List ℕ → Reached → Reading → ℕ → Listed → Seen → Type 0
@@ -241,7 +242,7 @@ module _ (file text₀ : List ℕ) (fits : length file ≤ most_octets) where
     sees : {v : Seen} → seen file at ≡ v → seen file (reading at.cursor k.r.order) ≡ v
     sees e = rw k.order e
 
-    over : {told : Told} {why : Refusal} {p : Place} {offset : Offset} → told.outcome ≡ Refused why p offset → Over told (Refused why p offset)
+    over : {told : Told} {stop : Refused} → told.outcome ≡ Err stop → Over told (Err stop)
     over e = record { ends = e; no_lines = λ clean. absurd (unclean clean) }
 
     pub by_seen_lem : (v : Seen) → seen file at ≡ v → By file k.r at count before v
@@ -282,14 +283,11 @@ module _ (file text₀ : List ℕ) (fits : length file ≤ most_octets) where
 
     -- a section is passed
     module _ {s : Section} {next : Reading} {due : Due} (t : Turned file k.r at.cursor s next due) where
-      pub count_below : count < most_octets
+      count_below : count < most_octets
       count_below = let common = goes t.step.is_read in omega (arith, k.bounded.sections, k.counted)
 
       pub few_before : (m.message < most_octets) × (m.submessage < most_octets)
       few_before = let low = count_below in (omega (arith, k.few.0), omega (arith, k.few.1))
-
-      pub room_before : octets ≤ most_line * most_octets
-      room_before = omega (arith, k.short, k.bounded.lines, k.bounded.inside)
 
       pub nearer : length file - next.cursor.at.0 < length file - at.cursor.at.0
       nearer = let common = goes t.step.is_read in omega arith
@@ -350,6 +348,6 @@ module _ (file text₀ : List ℕ) (fits : length file ≤ most_octets) where
           put = λ clean room. k.written room ∙ ap (put_in_text text₀ 0) (sym (all clean));
         }
       where
-        all : o ≡ Clean → text_of (entries_of file) ≡ k.done
+        all : o ≡ Ok tt → text_of (entries_of file) ≡ k.done
         all clean =
             k.whole ∙ ap (λ (l : List SubmessageLine). k.done ++ text_of (entries_for file l)) (end.no_lines clean) ∙ append-nil k.done

@@ -1,14 +1,8 @@
 -- The inventory of a file (02, Ticket 1): one line for each submessage, of the walk and the decoded
 -- fields and of nothing else.
-use Rattle.std.specs.Prelude.{ℕ, List, [], ◌∷◌, ◌++◌, ltb, length, take, drop}
+use Rattle.std.specs.Prelude.{ℕ, List, [], ◌∷◌, ◌++◌, ltb, length, take, drop, Option, Some, None, Result, Ok, Err}
 use Rattle.octets.specs.Words.{pick}
 use Rattle.sections.specs.declared.indicator.Indicator.{Indicator}
-use Rattle.sections.specs.declared.indicator.MaybeIndicator.{MaybeIndicator}
-use Rattle.sections.specs.declared.indicator.MaybeIndicator.TheVariants.{Fields, NoIndicator}
-use Rattle.products.specs.declared.MaybeOctet.{MaybeOctet}
-use Rattle.products.specs.declared.MaybeOctet.TheVariants.{Octet, NoOctet}
-use Rattle.products.specs.declared.MaybeSurfaces.{MaybeSurfaces}
-use Rattle.products.specs.declared.MaybeSurfaces.TheVariants.{Both, NoSurfaces}
 use Rattle.products.specs.declared.templates.TemplateReading.TheVariants.{ByManual}
 use Rattle.index.specs.Bounds.{unlimited}
 use Rattle.index.specs.Walk.{walked}
@@ -25,17 +19,17 @@ use Rattle.index.specs.Decoded.{
   decoded,
 }
 use Rattle.index.specs.declared.line.Line.{Line}
-use Rattle.index.specs.declared.refusal.Outcome.{Outcome}
-use Rattle.index.specs.declared.refusal.Outcome.TheVariants as outcome
 use Rattle.entries.specs.Entries.{text_of}
 use Rattle.entries.specs.declared.Entry.{Entry}
-use Rattle.inventory.specs.declared.Inventoried.{Inventoried}
-use Rattle.inventory.specs.declared.Inventoried.TheVariants as inventoried
+use Rattle.products.specs.declared.FixedSurface.{FixedSurface}
+use Rattle.index.specs.Outcome.{Outcome}
+use Rattle.inventory.specs.declared.InventoryRefusal.TheVariants.{TextTooSmall, Walk}
+use Rattle.inventory.specs.declared.InventoryRefusal.{InventoryRefusal}
 
 -- the type of the first surface
-unfoldable pub first_surface : MaybeSurfaces → MaybeOctet
-first_surface (Both first second) = Octet first.surface
-first_surface NoSurfaces = NoOctet
+unfoldable pub first_surface : Option (FixedSurface × FixedSurface) → Option ℕ
+first_surface (Some (first, second)) = Some first.surface
+first_surface None = None
 
 -- all that a function gives for each of a list
 abbrev pub for_each : {A B : Type 0} → List A → (A → List B) → List B
@@ -47,9 +41,9 @@ abbrev pub stands_at : {A : Type 0} → ℕ → List A → List A
 stands_at place list = take 1 (drop place list)
 
 -- what a section says as a section 0: one, or none if it is another
-abbrev fields_in : MaybeIndicator → List Indicator
-fields_in (Fields indicator) = indicator ∷ []
-fields_in NoIndicator = []
+abbrev fields_in : Option Indicator → List Indicator
+fields_in (Some indicator) = indicator ∷ []
+fields_in None = []
 
 unfoldable pub indicator_in : SectionFields → List Indicator
 indicator_in (of_indicator fields) = fields_in fields
@@ -100,24 +94,24 @@ entries_of file =
 
 -- an answer, and the whole buffer
 pub record TextWritten : Type 0 where
-  pub answer : Inventoried
+  pub answer : Result ℕ InventoryRefusal
   pub text : List ℕ
 
 -- 20 where the text is longer than the buffer, else the text
 unfoldable pub text_into : List ℕ → List ℕ → TextWritten
 text_into written text =
     pick (ltb (length text) (length written))
-    (record { answer = inventoried.TextTooSmall; text = text })
+    (record { answer = Err TextTooSmall; text = text })
     (record {
-      answer = inventoried.Whole (length written);
+      answer = Ok (length written);
       text = written ++ drop (length written) text;
     })
 
 -- the walk's own refusals, then 20; on any nothing is written
 unfoldable pub inventory_by : Outcome → List Entry → List ℕ → TextWritten
-inventory_by outcome.Clean entries text = text_into (text_of entries) text
-inventory_by (outcome.Refused why place offset) entries text =
-    record { answer = inventoried.Refused why place offset; text = text }
+inventory_by (Ok tt) entries text = text_into (text_of entries) text
+inventory_by (Err stop) entries text =
+    record { answer = Err (Walk stop); text = text }
 
 unfoldable pub inventory_of : List ℕ → List ℕ → TextWritten
 inventory_of file text = inventory_by (walked unlimited file).outcome (entries_of file) text

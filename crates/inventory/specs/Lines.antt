@@ -1,12 +1,11 @@
 -- Machinery: what the private functions write into the text.
-use Rattle.std.specs.Prelude.{ℕ, ◌+◌, ◌≤◌, ◌≡◌, List, [], ◌∷◌, ◌++◌, length, take, drop}
+use Rattle.std.specs.Prelude.{ℕ, ◌+◌, ◌≤◌, ◌≡◌, List, [], ◌∷◌, ◌++◌, length, take, drop, Ok}
 use Rattle.sections.specs.Indicator.{indicator_of}
 use Rattle.products.specs.Products.{product_of}
 use Rattle.products.specs.declared.templates.TemplateReading.TheVariants.{ByManual}
 use Rattle.index.specs.Bounds.{unlimited}
 use Rattle.index.specs.Walk.{walked}
 use Rattle.index.specs.Decoded.{of_indicator, own_octets, payload_of}
-use Rattle.index.specs.declared.refusal.Outcome.TheVariants.{Clean}
 use Rattle.entries.specs.Entries.{text_of, most_line}
 use Rattle.entries.specs.declared.Entry.{Entry}
 use Rattle.inventory.specs.Inventory.{for_each, indicator_in, entries_of}
@@ -43,6 +42,6 @@ pub record PutText (written : List ℕ) (at : ℕ) (before after : List ℕ) (en
 pub record PutLines (file before after : List ℕ) (told : Listing) : Type 0 where
   pub same_length : length after ≡ length before
   pub ends : told.outcome ≡ (walked unlimited file).outcome
-  pub measured : told.outcome ≡ Clean → told.octets ≡ length (text_of (entries_of file))
-  pub put : told.outcome ≡ Clean → told.octets ≤ length before
+  pub measured : told.outcome ≡ Ok tt → told.octets ≡ length (text_of (entries_of file))
+  pub put : told.outcome ≡ Ok tt → told.octets ≤ length before
       → after ≡ put_in_text before 0 (text_of (entries_of file))

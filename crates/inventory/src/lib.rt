@@ -11,30 +11,34 @@ mod memory;
 mod turn;
 
 use framing::Offset;
-use index::{MOST_OCTETS, Outcome, Refusal, StoreEnd, end_of, stored, unplaced};
+use index::{MOST_OCTETS, Outcome, Refusal, Refused, StoreEnd, end_of, stored, unplaced};
 use lines::put_lines;
 use order::Place;
 use products::ROWS;
 
+// Why there is no inventory.
 #[derive(Clone, Copy)]
-pub enum Inventoried {
-    // The text stands in the buffer's first octets, so many of them.
-    Whole(usize),
+pub enum InventoryRefusal {
     // The walk's own refusal, with its place and offset.
-    Refused(Refusal, Place, Offset),
+    Walk(Refused),
     // 20: the text is longer than the buffer.
     TextTooSmall,
 }
 
-// The inventory, the line of each submessage: the walk's own refusals, then 20. The lines are
-// measured first, so that nothing is written on a refusal; the rest of the buffer is untouched.
-pub fn inventory(file: &[u8], text: &mut [u8]) -> Inventoried
+// The inventory, the line of each submessage: the walk's own refusals, then 20. The text stands in
+// the buffer's first octets, so many of them as are answered; the rest of the buffer is untouched.
+// The lines are measured first, so that nothing is written on a refusal.
+pub fn inventory(file: &[u8], text: &mut [u8]) -> Result<usize, InventoryRefusal>
     ensures answer { result ≡ (inventory_of file.now text.old).answer }
     ensures text { text.new
         ≡ (inventory_of file.now text.old).text }
 {
     if MOST_OCTETS < file.len() as u64 {
-        return Inventoried::Refused(Refusal::FileTooLong, Place(0), Offset(0));
+        return Err(InventoryRefusal::Walk(Refused {
+            why: Refusal::FileTooLong,
+            place: Place(0),
+            offset: Offset(0),
+        }));
     }
     // Laid out once, for every line of both passes.
     let templates: &[u32] = &ROWS;
@@ -42,27 +46,27 @@ pub fn inventory(file: &[u8], text: &mut [u8]) -> Inventoried
     let outcome = measured.outcome;
     let octets = measured.octets;
     match outcome {
-        Outcome::Refused(why, place, offset) => Inventoried::Refused(why, place, offset),
-        Outcome::Clean => {
+        Err(stop) => Err(InventoryRefusal::Walk(stop)),
+        Ok(()) => {
             if text.len() < octets {
-                return Inventoried::TextTooSmall;
+                return Err(InventoryRefusal::TextTooSmall);
             }
             let written = put_lines(templates, file, text);
-            Inventoried::Whole(written.octets)
+            Ok(written.octets)
         }
     }
 }
 
 // An answer in document 01's and 02's numbers, and the octets written.
-pub fn inventory_end(answer: Inventoried) -> StoreEnd
+pub fn inventory_end(answer: Result<usize, InventoryRefusal>) -> StoreEnd
     ensures { result ≡ inventory_end answer }
 {
     match answer {
-        Inventoried::Whole(octets) => stored(octets as u64),
-        Inventoried::Refused(why, place, offset) => StoreEnd {
-            end: end_of(Outcome::Refused(why, place, offset)),
+        Ok(octets) => stored(octets as u64),
+        Err(InventoryRefusal::Walk(stop)) => StoreEnd {
+            end: end_of(Err(stop)),
             written: 0,
         },
-        Inventoried::TextTooSmall => unplaced(20, 0),
+        Err(InventoryRefusal::TextTooSmall) => unplaced(20, 0),
     }
 }

@@ -14,7 +14,7 @@ use index::{Listed, Outcome, unlisted};
 use order::{Place, completing};
 use products::{TemplateReading, product_by};
 use reading::{Seen, look, start};
-use sections::{Indicator, MaybeIndicator, ProdDefinition};
+use sections::{Indicator, ProdDefinition};
 
 // How the walk ends, and the octets of all lines.
 #[derive(Clone, Copy)]
@@ -28,10 +28,8 @@ fn put_at(text: &mut [u8], at: usize, line: &[u8])
     requires { at + length line.now ≤ length text.old }
     ensures { text.new ≡ put_in_text text.old at line.now }
 {
-    let mut i: usize = 0;
-    while i < line.len() {
+    for i in 0..line.len() {
         text[at + i] = line[i];
-        i += 1;
     }
 }
 
@@ -68,7 +66,7 @@ fn put_memory(templates: &[u32], file: &[u8], text: &mut [u8], at: usize, memory
     let zeroth = memory.zeroth;
     let fourth = memory.fourth;
     let known = Indicator::from_section(own_octets(file, zeroth));
-    let MaybeIndicator::Fields(indicator) = known else {
+    let Some(indicator) = known else {
         return at;
     };
     let product = product_by(

@@ -9,7 +9,7 @@ use crate::turn::Due;
 use entries::Entry;
 use framing::Section;
 use index::unlisted;
-use products::{MaybeOctet, MaybeSurfaces, Product};
+use products::{FixedSurface, Product};
 use sections::{HEADER_SIZE, Indicator, ProdDefinition};
 
 #[derive(Clone, Copy)]
@@ -96,12 +96,12 @@ pub(crate) fn payload_of(file: &[u8], section: Section) -> &[u8]
     &own[HEADER_SIZE..]
 }
 
-fn first_surface(surfaces: MaybeSurfaces) -> MaybeOctet
+fn first_surface(surfaces: Option<(FixedSurface, FixedSurface)>) -> Option<u8>
     ensures { result ≡ first_surface surfaces }
 {
     match surfaces {
-        MaybeSurfaces::Both(first, _) => MaybeOctet::Octet(first.surface),
-        MaybeSurfaces::NoSurfaces => MaybeOctet::NoOctet,
+        Some((first, _)) => Some(first.surface),
+        None => None,
     }
 }
 

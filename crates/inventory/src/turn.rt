@@ -3,7 +3,7 @@ ghost use Rattle.std.specs.Prelude.{◌≡◌};
 ghost use Rattle.inventory.specs.Turn.{stray_at, stopped_by};
 
 use framing::Section;
-use index::{Listed, Outcome, Refusal};
+use index::{Listed, Outcome, Refusal, Refused};
 use order::Place;
 use reading::Seen;
 
@@ -21,7 +21,11 @@ fn refused(section: Section, place: u64) -> Outcome
     ensures { result ≡ stray_at section place }
 {
     let offset = section.offset;
-    Outcome::Refused(Refusal::Misplaced(section.number), Place(place), offset)
+    Err(Refused {
+        why: Refusal::Misplaced(section.number),
+        place: Place(place),
+        offset,
+    })
 }
 
 // How a walk ends at what is seen, after so many sections and the last of them. A section that it
@@ -35,19 +39,27 @@ pub(crate) fn stopped(seen: Seen, place: u64, last: Listed) -> Outcome
         Seen::Misplaced(section) => refused(section, place),
         Seen::NoGrid(section) => {
             let offset = section.offset;
-            Outcome::Refused(Refusal::NoGrid(section.number), Place(place), offset)
+            Err(Refused {
+                why: Refusal::NoGrid(section.number),
+                place: Place(place),
+                offset,
+            })
         }
-        Seen::Clean => Outcome::Clean,
+        Seen::Clean => Ok(()),
         Seen::InputOver => {
             let at = last.place;
             let section = last.section;
             let offset = section.offset;
-            Outcome::Refused(Refusal::InputOver, at, offset)
+            Err(Refused {
+                why: Refusal::InputOver,
+                place: at,
+                offset,
+            })
         }
-        Seen::Unreadable(fault, offset) => Outcome::Refused(
-            Refusal::Unreadable(fault),
-            Place(place),
+        Seen::Unreadable(fault, offset) => Err(Refused {
+            why: Refusal::Unreadable(fault),
+            place: Place(place),
             offset,
-        ),
+        }),
     }
 }

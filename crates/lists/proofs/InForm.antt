@@ -1,5 +1,6 @@
 -- A line is taken off a text exactly where one that is in this form stands first, closed by a line
 -- feed.
+use Rattle.std.specs.Prelude.{Option, Some, None}
 use Prim.Native.Nat.{ℕ, ◌≤◌}
 use native.Mathlib.Omega.{arith}
 use mathlib.Core.Path.{◌≡◌, refl, sym, ap, ◌∙◌}
@@ -9,10 +10,6 @@ use lib.ListN.{drop}
 use lib.Seq.{drop-drop}
 use borrow.Author.Tests.{eq-eqb}
 use Rattle.framing.proofs.Tests.{by_test, and_both}
-use Rattle.products.specs.declared.MaybeOctet.{MaybeOctet}
-use Rattle.products.specs.declared.MaybeOctet.TheVariants.{Octet, NoOctet}
-use Rattle.products.specs.declared.MaybeTime.{MaybeTime}
-use Rattle.products.specs.declared.MaybeTime.TheVariants.{Time, NoTime}
 use Rattle.index.specs.Bounds.{most_octets}
 use Rattle.entries.specs.Decimal.{Spelling}
 use Rattle.entries.specs.Entries.{colon, line_feed, none_text, joined}
@@ -22,6 +19,7 @@ use Rattle.lists.specs.Line.{taken, next_is, is_digit, take_number, none_next, t
 use Rattle.lists.specs.declared.line.FirstFour.{FirstFour}
 use Rattle.lists.specs.declared.line.LastFive.{LastFive}
 use Rattle.lists.proofs.Numbers.{Where, where_then, Stands, next_stands, number_stands, number_taken_lem, no_letter}
+use Rattle.products.specs.declared.ForecastTime.{ForecastTime}
 
 -- `none` comes next where it stands, closed
 none_stands : (close : ℕ) (text : List ℕ) → none_next close text ≡ true
@@ -49,7 +47,7 @@ unfolding none_next
 no_none close tail so = rw (no_letter 110 (omega arith) tail so)
 
 -- a field that can be none
-abbrev OctetStands : ℕ → List ℕ → MaybeOctet → List ℕ → Type 0
+abbrev OctetStands : ℕ → List ℕ → Option ℕ → List ℕ → Type 0
 OctetStands = Stands OctetSaid OctetInBounds
 
 octet_stands : (close : ℕ) (text : List ℕ) → Where (OctetStands close text) (take_octet close text)
@@ -62,7 +60,7 @@ octet_stands close text =
       small = tt;
       stands = none_stands close text none;
     })
-    λ some. where_then (OctetStands close text) (λ n rest. taken (Octet n) rest)
+    λ some. where_then (OctetStands close text) (λ n rest. taken (Some n) rest)
     (take_number 255 close text) (number_stands 255 close text (omega arith))
     λ n rest number. record {
       spelling = number.spelling;
@@ -71,15 +69,15 @@ octet_stands close text =
       stands = number.stands;
     }
 
-octet_taken_lem : (close : ℕ) → is_digit close ≡ false → (s rest : List ℕ) (o : MaybeOctet)
+octet_taken_lem : (close : ℕ) → is_digit close ≡ false → (s rest : List ℕ) (o : Option ℕ)
     → OctetSaid s o → OctetInBounds o → take_octet close (s ++ (close ∷ rest)) ≡ taken o rest
 unfolding take_octet
-octet_taken_lem close other s rest (Octet n) so small =
+octet_taken_lem close other s rest (Some n) so small =
     rw (no_none close (close ∷ rest) so, number_taken_lem 255 close other rest so small)
-octet_taken_lem close other s rest NoOctet so small = rw (so, none_comes close rest)
+octet_taken_lem close other s rest None so small = rw (so, none_comes close rest)
 
 -- time unit and time
-record TimeStands (text : List ℕ) (t : MaybeTime) (rest : List ℕ) : Type 0 where
+record TimeStands (text : List ℕ) (t : Option ForecastTime) (rest : List ℕ) : Type 0 where
   unit : List ℕ
   time : List ℕ
   says : TimeSaid unit time t
@@ -113,16 +111,17 @@ time_stands text =
       stands = unit.stands ∙ ap (λ (l : List ℕ). unit.spelling ++ (colon ∷ l)) time.stands;
     }
 
-time_taken_lem : (unit time rest : List ℕ) (t : MaybeTime) → TimeSaid unit time t → TimeInBounds t
+time_taken_lem : (unit time rest : List ℕ) (t : Option ForecastTime) → TimeSaid unit time t
+    → TimeInBounds t
     → take_time (unit ++ (colon ∷ (time ++ (colon ∷ rest)))) ≡ taken t rest
 unfolding take_time is_digit
-time_taken_lem unit time rest (Time t) so small =
+time_taken_lem unit time rest (Some t) so small =
     rw (
       no_none colon (colon ∷ (time ++ (colon ∷ rest))) so.0,
       number_taken_lem 255 colon refl (time ++ (colon ∷ rest)) so.0 small.0,
       number_taken_lem 4294967295 colon refl rest so.1 small.1,
     )
-time_taken_lem unit time rest NoTime so small =
+time_taken_lem unit time rest None so small =
     rw (so.0, so.1, none_comes colon (none_text ++ (colon ∷ rest)), none_comes colon rest)
 
 -- the first four fields

@@ -1,4 +1,5 @@
 -- When the reader of a list answers what, and that what is written reads back.
+use Rattle.std.specs.Prelude.{Result, Ok, Err, ⊤}
 use Prim.Native.Nat.{ℕ, zero, suc, ◌+◌, ◌≤◌, ◌<◌}
 use native.Mathlib.Omega.{arith}
 use native.Mathlib.Nat.{add-zero, zero-add}
@@ -17,8 +18,6 @@ use Rattle.lists.specs.Line.{Taken, taken, not_taken, take_line}
 use Rattle.lists.specs.Lists.{ListTold, list_ends, entry_then, list_told}
 use Rattle.lists.specs.End.{list_end}
 use Rattle.lists.specs.Laws.{ListGiven, all_read, not_in_form, table_full, ListTells, ListExactlyWhen, ListReadsBack}
-use Rattle.lists.specs.declared.ListEnd.{ListEnd}
-use Rattle.lists.specs.declared.ListEnd.TheVariants as end
 use Rattle.lists.proofs.InForm.{line_taken}
 use Rattle.lists.proofs.Lines.{
   stands_of,
@@ -30,6 +29,8 @@ use Rattle.lists.proofs.Lines.{
   told_full,
   told_not_taken,
 }
+use Rattle.lists.specs.declared.ListRefusal.TheVariants.{NotInForm, TableFull}
+use Rattle.lists.specs.declared.ListRefusal.{ListRefusal}
 
 -- these entries, and what is told after them
 abbrev pub entries_then : List Entry → ListTold → ListTold
@@ -51,7 +52,7 @@ reads_on room read {rest = rest} (line {l = l} {more = more} {e = e} {later = la
     ∙ ap (λ (k : ℕ). entries_then (e ∷ later) (told_from room k rest)) count)
 
 -- and so the reading ends
-pub ends_so : (room : ℕ) {text rest : List ℕ} {entries : List Entry} (end : ListEnd)
+pub ends_so : (room : ℕ) {text rest : List ℕ} {entries : List Entry} (end : Result ⊤ ListRefusal)
     → Reads text entries rest → length entries ≤ room
     → told_from room (length entries) rest ≡ list_ends end
     → list_told room text ≡ record { entries = entries; end = end }
@@ -62,13 +63,13 @@ ends_so room {rest = rest} {entries = entries} end reads small last =
     ∙ ap (entries_then entries) last
     ∙ ap (λ (l : List Entry). record { entries = l; end = end }) (append-nil entries)
 
-no_place : (end : ListEnd) → ((list_end end).place ≡ 0) × ((list_end end).offset ≡ 0)
+no_place : (end : Result ⊤ ListRefusal) → ((list_end end).place ≡ 0) × ((list_end end).offset ≡ 0)
 unfolding list_end end_of
-no_place end.AllRead = (refl, refl)
-no_place (end.NotInForm number) = (refl, refl)
-no_place end.TableFull = (refl, refl)
+no_place (Ok tt) = (refl, refl)
+no_place (Err (NotInForm number)) = (refl, refl)
+no_place (Err TableFull) = (refl, refl)
 
-tells : (room : ℕ) (text : List ℕ) {entries : List Entry} (end : ListEnd)
+tells : (room : ℕ) (text : List ℕ) {entries : List Entry} (end : Result ⊤ ListRefusal)
     → list_told room text ≡ record { entries = entries; end = end }
     → ListTells (list_told room text) entries (list_end end).outcome (list_end end).detail
 tells room text end e =
@@ -82,7 +83,7 @@ tells room text end e =
 
 -- the next line is in this form, and there is no room for it
 full : (room : ℕ) {rest more : List ℕ} {next : Entry} → Reads rest (next ∷ []) more
-    → told_from room room rest ≡ list_ends end.TableFull
+    → told_from room room rest ≡ list_ends (Err TableFull)
 full room (line {l = l} {more = more} so reads) =
     told_full room room (l ++ (line_feed ∷ more)) (line_taken more so) (omega arith)
 
@@ -91,13 +92,13 @@ told_as_given : (room : ℕ) (text : List ℕ) (entries : List Entry) (n d : ℕ
     → ListGiven room text entries n d → ListTells (list_told room text) entries n d
 unfolding list_end end_of
 told_as_given room text entries n d (all_read reads small) =
-    tells room text end.AllRead (ends_so room end.AllRead reads small (told_none room (length entries)))
+    tells room text (Ok tt) (ends_so room (Ok tt) reads small (told_none room (length entries)))
 told_as_given room text entries n d (not_in_form {rest = rest} reads small some none) =
-    let end = end.NotInForm (length entries + 1) in
+    let end = Err (NotInForm (length entries + 1)) in
     tells room text end (ends_so room end reads small
     (told_not_taken room (length entries) rest some (none_taken rest none (take_line rest) refl)))
 told_as_given room text entries n d (table_full {rest = rest} reads many next) =
-    tells room text end.TableFull (ends_so room end.TableFull reads (omega arith)
+    tells room text (Err TableFull) (ends_so room (Err TableFull) reads (omega arith)
     (ap (λ (k : ℕ). told_from room k rest) many ∙ full room next))
 
 -- and something is given of every text
@@ -174,4 +175,4 @@ list_exactly_when room text entries n d =
 -- what is written of a list within its bounds reads back
 pub list_reads_back : ListReadsBack
 list_reads_back room entries so small =
-    ends_so room end.AllRead (written_says_its_list entries so) small (told_none room (length entries))
+    ends_so room (Ok tt) (written_says_its_list entries so) small (told_none room (length entries))

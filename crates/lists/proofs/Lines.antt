@@ -1,5 +1,6 @@
 -- The lines of a text, one by one: what is told of a text is told of the line that is taken off it
 -- and of the text behind that line.
+use Rattle.std.specs.Prelude.{Ok, Err}
 use Prim.Native.Nat.{ℕ, ◌+◌, ◌≤◌, ◌<◌}
 use native.Mathlib.Omega.{arith}
 use mathlib.Core.Path.{◌≡◌, refl, sym, ap, subst, ◌∙◌}
@@ -17,9 +18,9 @@ use Rattle.entries.specs.declared.Entry.{Entry}
 use Rattle.lists.specs.Line.{LineSaid, says, says_nothing, Taken, taken, not_taken, wholly, take_line, entry_of}
 use Rattle.lists.specs.Lists.{text_lines, ListTold, list_ends, entry_then, lines_read}
 use Rattle.lists.specs.Laws.{EntryExactlyInForm, NoLineFirst}
-use Rattle.lists.specs.declared.ListEnd.TheVariants as end
 use Rattle.lists.proofs.Numbers.{Where}
 use Rattle.lists.proofs.InForm.{LineStands, line_stands, line_taken}
+use Rattle.lists.specs.declared.ListRefusal.TheVariants.{NotInForm, TableFull}
 
 -- where a line is taken, one in this form stands
 pub stands_of : (text : List ℕ) {e : Entry} {rest : List ℕ} → take_line text ≡ taken e rest
@@ -114,14 +115,15 @@ split (octet ∷ more) =
 abbrev pub told_from : ℕ → ℕ → List ℕ → ListTold
 told_from room read text = lines_read room read (text_lines text).closed (text_lines text).left
 
-pub told_none : (room read : ℕ) → told_from room read [] ≡ list_ends end.AllRead
+pub told_none : (room read : ℕ) → told_from room read [] ≡ list_ends (Ok tt)
 unfolding lines_read text_lines
 told_none room read = refl
 
 pub told_taken : (room read : ℕ) (text : List ℕ) {e : Entry} {rest : List ℕ}
     → take_line text ≡ taken e rest
     → told_from room read text
-    ≡ pick (leb room read) (list_ends end.TableFull) (entry_then e (told_from room (read + 1) rest))
+    ≡ pick (leb room read) (list_ends (Err TableFull))
+    (entry_then e (told_from room (read + 1) rest))
 unfolding lines_read
 told_taken room read text {e} {rest} is =
     let stands = stands_of text is in
@@ -134,7 +136,7 @@ told_taken room read text {e} {rest} is =
 
 pub told_full : (room read : ℕ) (text : List ℕ) {e : Entry} {rest : List ℕ}
     → take_line text ≡ taken e rest → room ≤ read
-    → told_from room read text ≡ list_ends end.TableFull
+    → told_from room read text ≡ list_ends (Err TableFull)
 told_full room read text is many = told_taken room read text is ∙ rw (le-leb room read many)
 
 not_in_form_lem : (line more : List ℕ) → take_line (line ++ (line_feed ∷ more)) ≡ not_taken
@@ -148,7 +150,7 @@ none_of [] e = refl
 none_of (octet ∷ more) e = absurd (omega arith)
 
 told_of_split : (room read : ℕ) {text : List ℕ} → Not (text ≡ []) → take_line text ≡ not_taken
-    → Split text → told_from room read text ≡ list_ends (end.NotInForm (read + 1))
+    → Split text → told_from room read text ≡ list_ends (Err (NotInForm (read + 1)))
 unfolding lines_read
 told_of_split room read {text} some none (unclosed clear) =
     rw (lines_unclosed text clear, ne_eqb (length text) 0 (λ z. some (none_of text z)))
@@ -156,12 +158,12 @@ told_of_split room read some none (closed line more clear) =
     rw (lines_closed line more clear, not_in_form_lem line more none (entry_of line) refl)
 
 pub told_not_taken : (room read : ℕ) (text : List ℕ) → Not (text ≡ []) → take_line text ≡ not_taken
-    → told_from room read text ≡ list_ends (end.NotInForm (read + 1))
+    → told_from room read text ≡ list_ends (Err (NotInForm (read + 1)))
 told_not_taken room read text some none = told_of_split room read some none (split text)
 
 -- at a place behind the end, and at one inside
 pub told_behind : (room read : ℕ) (text : List ℕ) (at : ℕ) → length text ≤ at
-    → told_from room read (drop at text) ≡ list_ends end.AllRead
+    → told_from room read (drop at text) ≡ list_ends (Ok tt)
 told_behind room read text at behind = rw (drop_of_length-le text behind) (told_none room read)
 
 pub some_left : (text : List ℕ) (at : ℕ) → at < length text → Not (drop at text ≡ [])

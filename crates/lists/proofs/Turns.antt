@@ -1,33 +1,31 @@
 -- The turns of `read_list`: the lines read so far are told, and their entries stand in the table.
+use Rattle.std.specs.Prelude.{Option, Some, None, Result, ⊤}
 use Prim.Native.Nat.{ℕ, ◌+◌, ◌*◌, ◌/◌, ◌≤◌, ◌<◌}
 use native.Mathlib.Omega.{arith}
 use mathlib.Core.Path.{◌≡◌, refl, sym, ap, ◌∙◌}
 use mathlib.Core.List.{List, [], ◌∷◌, ◌++◌, append_assoc, append-nil}
-use lib.ListN.{length, take, drop, length-append, length-drop}
+use lib.ListN.{length, take, drop, length-append}
 use lib.Seq.{take_at, drop-append-add, drop-drop}
-use Rattle.products.specs.declared.MaybeOctet.{MaybeOctet}
-use Rattle.products.specs.declared.MaybeOctet.TheVariants.{Octet, NoOctet}
-use Rattle.products.specs.declared.MaybeTime.{MaybeTime}
-use Rattle.products.specs.declared.MaybeTime.TheVariants.{Time, NoTime}
 use Rattle.entries.specs.Form.{Reads, nothing}
 use Rattle.entries.specs.declared.Entry.{Entry}
 use Rattle.standing.specs.Put.{put_at}
 use Rattle.lists.specs.Line.{taken, take_line}
 use Rattle.lists.specs.Lists.{list_ends, list_told, octet_numbers, time_numbers, entry_numbers, list_numbers, read_of}
-use Rattle.lists.specs.declared.ListEnd.{ListEnd}
 use Rattle.lists.proofs.Lines.{told_from}
 use Rattle.lists.proofs.Laws.{ends_so, reads_then, one_line}
+use Rattle.products.specs.declared.ForecastTime.{ForecastTime}
+use Rattle.lists.specs.declared.ListRefusal.{ListRefusal}
 
 -- thirteen numbers an entry
-octet_length : (o : MaybeOctet) → length (octet_numbers o) ≡ 2
+octet_length : (o : Option ℕ) → length (octet_numbers o) ≡ 2
 unfolding octet_numbers
-octet_length (Octet n) = refl
-octet_length NoOctet = refl
+octet_length (Some n) = refl
+octet_length None = refl
 
-time_length : (t : MaybeTime) → length (time_numbers t) ≡ 3
+time_length : (t : Option ForecastTime) → length (time_numbers t) ≡ 3
 unfolding time_numbers
-time_length (Time t) = refl
-time_length NoTime = refl
+time_length (Some t) = refl
+time_length None = refl
 
 entry_length : (e : Entry) → length (entry_numbers e) ≡ 13
 unfolding entry_numbers
@@ -72,13 +70,6 @@ module _ {text before table : List ℕ} {read at : ℕ} (going : Going text befo
   numbers : length (list_numbers going.done) ≡ read * 13
   numbers = numbers_length going.done ∙ ap (λ (k : ℕ). k * 13) going.count
 
-  pub same_room : length table ≡ length before
-  same_room =
-      let within = going.within in
-      ap (λ (l : List ℕ). length l) going.stored
-      ∙ length-append (list_numbers going.done) (drop (read * 13) before)
-      ∙ omega (arith, numbers, length-drop (read * 13) before)
-
   -- one line more
   pub one_more : {e : Entry} {next : ℕ} {after : List ℕ} → take_line (drop at text) ≡ taken e (drop next text)
       → read < length before / 13
@@ -112,7 +103,8 @@ module _ {text before table : List ℕ} {read at : ℕ} (going : Going text befo
       }
 
   -- the reading ends here
-  pub ends : (end : ListEnd) → told_from (length before / 13) read (drop at text) ≡ list_ends end
+  pub ends : (end : Result ⊤ ListRefusal)
+      → told_from (length before / 13) read (drop at text) ≡ list_ends end
       → (record { entries = read; end = end } ≡ (read_of text before).answer)
       × (table ≡ (read_of text before).table)
   unfolding read_of

@@ -1,6 +1,6 @@
 -- When the reader of a list answers what (02, Ticket 1), by the form of its lines. The statements
 -- are proved in proofs/, under their names in small letters.
-use Rattle.std.specs.Prelude.{ℕ, ◌+◌, ◌≤◌, ◌≡◌, List, [], ◌∷◌, ◌++◌, length}
+use Rattle.std.specs.Prelude.{ℕ, ◌+◌, ◌≤◌, ◌≡◌, List, [], ◌∷◌, ◌++◌, length, Ok}
 use Rattle.octets.specs.Words.{Not, Iff}
 use Rattle.index.specs.Pins.{Every}
 use Rattle.entries.specs.Entries.{line_feed, text_of}
@@ -9,7 +9,6 @@ use Rattle.entries.specs.declared.Entry.{Entry}
 use Rattle.lists.specs.Line.{says, entry_of}
 use Rattle.lists.specs.Lists.{ListTold, list_told}
 use Rattle.lists.specs.End.{list_end}
-use Rattle.lists.specs.declared.ListEnd.TheVariants.{AllRead}
 
 -- a line says an entry exactly when it is in this form
 abbrev pub EntryExactlyInForm : Type 0
@@ -50,4 +49,4 @@ ListExactlyWhen =
 abbrev pub ListReadsBack : Type 0
 ListReadsBack =
     (room : ℕ) (entries : List Entry) → Every InBounds entries → length entries ≤ room
-    → list_told room (text_of entries) ≡ record { entries = entries; end = AllRead }
+    → list_told room (text_of entries) ≡ record { entries = entries; end = Ok tt }

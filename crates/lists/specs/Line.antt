@@ -1,28 +1,13 @@
 -- Machinery: what a line says, computed, octet by octet. That it says an entry exactly when it is
 -- in this form is `EntryExactlyInForm` (`Laws`).
-use Rattle.std.specs.Prelude.{ℕ, ◌+◌, ◌-◌, ◌*◌, Bool, false, ◌&&◌, List, [], ◌∷◌, ◌++◌, eqb, ltb, drop}
+use Rattle.std.specs.Prelude.{ℕ, ◌+◌, ◌-◌, ◌*◌, Bool, false, ◌&&◌, List, [], ◌∷◌, ◌++◌, eqb, ltb, drop, Option, Some, None}
 use Rattle.octets.specs.Words.{pick}
-use Rattle.products.specs.declared.MaybeOctet.{MaybeOctet}
-use Rattle.products.specs.declared.MaybeOctet.TheVariants.{Octet, NoOctet}
-use Rattle.products.specs.declared.MaybeTime.{MaybeTime}
-use Rattle.products.specs.declared.MaybeTime.TheVariants.{Time, NoTime}
 use Rattle.index.specs.Bounds.{most_octets}
 use Rattle.entries.specs.Entries.{colon, line_feed}
 use Rattle.entries.specs.declared.Entry.{Entry}
-use Rattle.lists.specs.declared.line.NumberAt.{NumberAt}
-use Rattle.lists.specs.declared.line.NumberAt.TheVariants as number
-use Rattle.lists.specs.declared.line.OctetAt.{OctetAt}
-use Rattle.lists.specs.declared.line.OctetAt.TheVariants as octet
-use Rattle.lists.specs.declared.line.TimeAt.{TimeAt}
-use Rattle.lists.specs.declared.line.TimeAt.TheVariants as time
 use Rattle.lists.specs.declared.line.FirstFour.{FirstFour}
-use Rattle.lists.specs.declared.line.FirstFourAt.{FirstFourAt}
-use Rattle.lists.specs.declared.line.FirstFourAt.TheVariants as four
 use Rattle.lists.specs.declared.line.LastFive.{LastFive}
-use Rattle.lists.specs.declared.line.LastFiveAt.{LastFiveAt}
-use Rattle.lists.specs.declared.line.LastFiveAt.TheVariants as five
-use Rattle.lists.specs.declared.line.LineAt.{LineAt}
-use Rattle.lists.specs.declared.line.LineAt.TheVariants as line
+use Rattle.products.specs.declared.ForecastTime.{ForecastTime}
 
 -- what is taken off the start of a text, and the text behind it
 pub data Taken (A : Type 0) : Type 0 where
@@ -70,19 +55,19 @@ none_next close text =
     && (next_is 110 (drop 2 text) && (next_is 101 (drop 3 text) && next_is close (drop 4 text))))
 
 -- a field that can be none
-unfoldable pub take_octet : ℕ → List ℕ → Taken MaybeOctet
+unfoldable pub take_octet : ℕ → List ℕ → Taken (Option ℕ)
 take_octet close text =
-    pick (none_next close text) (taken NoOctet (drop 5 text))
-    (then_take (take_number 255 close text) λ n rest. taken (Octet n) rest)
+    pick (none_next close text) (taken None (drop 5 text))
+    (then_take (take_number 255 close text) λ n rest. taken (Some n) rest)
 
 -- time unit and time: both none or neither
-unfoldable pub take_time : List ℕ → Taken MaybeTime
+unfoldable pub take_time : List ℕ → Taken (Option ForecastTime)
 take_time text =
     pick (none_next colon text)
-    (pick (none_next colon (drop 5 text)) (taken NoTime (drop 10 text)) not_taken)
+    (pick (none_next colon (drop 5 text)) (taken None (drop 10 text)) not_taken)
     (then_take (take_number 255 colon text) λ unit rest.
     then_take (take_number 4294967295 colon rest) λ time rest.
-    taken (Time (record { unit = unit; time = time })) rest)
+    taken (Some (record { unit = unit; time = time })) rest)
 
 -- message and submessage number, offset and discipline
 unfoldable pub take_four : List ℕ → Taken FirstFour
@@ -145,26 +130,26 @@ unfoldable pub entry_of : List ℕ → LineSaid
 entry_of line = wholly (take_line (line ++ (line_feed ∷ [])))
 
 -- What the functions answer: what is taken, and the place in the text behind it.
-unfoldable pub number_taken : List ℕ → NumberAt → Taken ℕ
-number_taken text (number.Number n next) = taken n (drop next text)
-number_taken text number.NoNumber = not_taken
+unfoldable pub number_taken : List ℕ → Option (ℕ × ℕ) → Taken ℕ
+number_taken text (Some (n, next)) = taken n (drop next text)
+number_taken text None = not_taken
 
-unfoldable pub octet_taken : List ℕ → OctetAt → Taken MaybeOctet
-octet_taken text (octet.Field n next) = taken n (drop next text)
-octet_taken text octet.NoField = not_taken
+unfoldable pub octet_taken : List ℕ → Option (Option ℕ × ℕ) → Taken (Option ℕ)
+octet_taken text (Some (n, next)) = taken n (drop next text)
+octet_taken text None = not_taken
 
-unfoldable pub time_taken : List ℕ → TimeAt → Taken MaybeTime
-time_taken text (time.Fields t next) = taken t (drop next text)
-time_taken text time.NoFields = not_taken
+unfoldable pub time_taken : List ℕ → Option (Option ForecastTime × ℕ) → Taken (Option ForecastTime)
+time_taken text (Some (t, next)) = taken t (drop next text)
+time_taken text None = not_taken
 
-unfoldable pub four_taken : List ℕ → FirstFourAt → Taken FirstFour
-four_taken text (four.Four fields next) = taken fields (drop next text)
-four_taken text four.NotFour = not_taken
+unfoldable pub four_taken : List ℕ → Option (FirstFour × ℕ) → Taken FirstFour
+four_taken text (Some (fields, next)) = taken fields (drop next text)
+four_taken text None = not_taken
 
-unfoldable pub five_taken : List ℕ → LastFiveAt → Taken LastFive
-five_taken text (five.Five fields next) = taken fields (drop next text)
-five_taken text five.NotFive = not_taken
+unfoldable pub five_taken : List ℕ → Option (LastFive × ℕ) → Taken LastFive
+five_taken text (Some (fields, next)) = taken fields (drop next text)
+five_taken text None = not_taken
 
-unfoldable pub line_taken : List ℕ → LineAt → Taken Entry
-line_taken text (line.Line e next) = taken e (drop next text)
-line_taken text line.NoLine = not_taken
+unfoldable pub line_taken : List ℕ → Option (Entry × ℕ) → Taken Entry
+line_taken text (Some (e, next)) = taken e (drop next text)
+line_taken text None = not_taken

@@ -1,17 +1,14 @@
 -- What the reader of a list stores and answers (02, Ticket 1: "line by line, 21 line not in this
 -- form, .. then 14 lent table full; the lines read before stand").
-use Rattle.std.specs.Prelude.{ℕ, ◌+◌, ◌/◌, List, [], ◌∷◌, ◌++◌, eqb, leb, length, drop}
+use Rattle.std.specs.Prelude.{ℕ, ◌+◌, ◌/◌, List, [], ◌∷◌, ◌++◌, eqb, leb, length, drop, Option, Some, None, Result, Ok, Err, ⊤}
 use Rattle.octets.specs.Words.{pick}
-use Rattle.products.specs.declared.MaybeOctet.{MaybeOctet}
-use Rattle.products.specs.declared.MaybeOctet.TheVariants.{Octet, NoOctet}
-use Rattle.products.specs.declared.MaybeTime.{MaybeTime}
-use Rattle.products.specs.declared.MaybeTime.TheVariants.{Time, NoTime}
 use Rattle.entries.specs.Entries.{line_feed}
 use Rattle.entries.specs.declared.Entry.{Entry}
 use Rattle.lists.specs.Line.{LineSaid, says, says_nothing, entry_of}
-use Rattle.lists.specs.declared.ListEnd.{ListEnd}
-use Rattle.lists.specs.declared.ListEnd.TheVariants as end
 use Rattle.lists.specs.declared.ListAnswer.{ListAnswer}
+use Rattle.products.specs.declared.ForecastTime.{ForecastTime}
+use Rattle.lists.specs.declared.ListRefusal.TheVariants.{NotInForm, TableFull}
+use Rattle.lists.specs.declared.ListRefusal.{ListRefusal}
 
 -- a text's lines: those that a line feed closes, and what is left behind the last of them
 pub record TextLines : Type 0 where
@@ -33,9 +30,9 @@ text_lines (octet ∷ more) =
 -- what is told of a text: the entries read, and how the reading ends
 pub record ListTold : Type 0 where
   pub entries : List Entry
-  pub end : ListEnd
+  pub end : Result ⊤ ListRefusal
 
-abbrev pub list_ends : ListEnd → ListTold
+abbrev pub list_ends : Result ⊤ ListRefusal → ListTold
 list_ends end = record { entries = []; end = end }
 
 -- an entry is told, and what is told after it
@@ -44,14 +41,14 @@ entry_then e later = record { entries = e ∷ later.entries; end = later.end }
 
 -- a line, behind so many that were read: 21 with its number from 1, then 14
 abbrev pub line_read : ℕ → ℕ → LineSaid → ListTold → ListTold
-line_read room read says_nothing later = list_ends (end.NotInForm (read + 1))
+line_read room read says_nothing later = list_ends (Err (NotInForm (read + 1)))
 line_read room read (says e) later =
-    pick (leb room read) (list_ends end.TableFull) (entry_then e later)
+    pick (leb room read) (list_ends (Err TableFull)) (entry_then e later)
 
 -- line by line, with room for so many entries; what no line feed closes is a line not in this form
 unfoldable pub lines_read : ℕ → ℕ → List (List ℕ) → List ℕ → ListTold
 lines_read room read [] left =
-    list_ends (pick (eqb (length left) 0) end.AllRead (end.NotInForm (read + 1)))
+    list_ends (pick (eqb (length left) 0) (Ok tt) (Err (NotInForm (read + 1))))
 lines_read room read (line ∷ more) left =
     line_read room read (entry_of line) (lines_read room (read + 1) more left)
 
@@ -59,14 +56,14 @@ unfoldable pub list_told : ℕ → List ℕ → ListTold
 list_told room text = lines_read room 0 (text_lines text).closed (text_lines text).left
 
 -- 1 and its value, or 0 and a number that says nothing
-unfoldable pub octet_numbers : MaybeOctet → List ℕ
-octet_numbers (Octet n) = 1 ∷ n ∷ []
-octet_numbers NoOctet = 0 ∷ 0 ∷ []
+unfoldable pub octet_numbers : Option ℕ → List ℕ
+octet_numbers (Some n) = 1 ∷ n ∷ []
+octet_numbers None = 0 ∷ 0 ∷ []
 
 -- 1, unit and time, or 0 and two numbers that say nothing
-unfoldable pub time_numbers : MaybeTime → List ℕ
-time_numbers (Time t) = 1 ∷ t.unit ∷ t.time ∷ []
-time_numbers NoTime = 0 ∷ 0 ∷ 0 ∷ []
+unfoldable pub time_numbers : Option ForecastTime → List ℕ
+time_numbers (Some t) = 1 ∷ t.unit ∷ t.time ∷ []
+time_numbers None = 0 ∷ 0 ∷ 0 ∷ []
 
 -- an entry in the table: thirteen numbers, which say of each field that can be none whether there
 -- is one

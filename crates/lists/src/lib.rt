@@ -10,13 +10,12 @@ mod line;
 mod table;
 
 use index::End;
-use line::{LineAt, line_at};
+use line::line_at;
 use table::{ENTRY, put_entry};
 
-// How the reading of a list ends.
+// Why a list is not read to its end.
 #[derive(Clone, Copy)]
-pub enum ListEnd {
-    AllRead,
+pub enum ListRefusal {
     // 21: a line is not in this form; its number, from 1.
     NotInForm(u64),
     // 14: an entry is due, and the table is full.
@@ -27,7 +26,7 @@ pub enum ListEnd {
 #[derive(Clone, Copy)]
 pub struct ListAnswer {
     pub entries: u64,
-    pub end: ListEnd,
+    pub end: Result<(), ListRefusal>,
 }
 
 // Reads the lines of a text one after the other and stores an entry for each, thirteen numbers, up
@@ -42,16 +41,16 @@ pub fn read_list(text: &[u8], table: &mut [u64]) -> ListAnswer
     let mut read: u64 = 0;
     let mut at: usize = 0;
     while at < text.len() {
-        let LineAt::Line(entry, next) = line_at(text, at) else {
+        let Some((entry, next)) = line_at(text, at) else {
             return ListAnswer {
                 entries: read,
-                end: ListEnd::NotInForm(read + 1),
+                end: Err(ListRefusal::NotInForm(read + 1)),
             };
         };
         if room <= read {
             return ListAnswer {
                 entries: read,
-                end: ListEnd::TableFull,
+                end: Err(ListRefusal::TableFull),
             };
         }
         put_entry(table, read as usize * ENTRY, entry);
@@ -60,28 +59,28 @@ pub fn read_list(text: &[u8], table: &mut [u64]) -> ListAnswer
     }
     ListAnswer {
         entries: read,
-        end: ListEnd::AllRead,
+        end: Ok(()),
     }
 }
 
 // How the reading ended, in numbers.
-pub fn list_end(end: ListEnd) -> End
+pub fn list_end(end: Result<(), ListRefusal>) -> End
     ensures { result ≡ list_end end }
 {
     match end {
-        ListEnd::AllRead => End {
+        Ok(()) => End {
             outcome: 0,
             place: 0,
             offset: 0,
             detail: 0,
         },
-        ListEnd::NotInForm(line) => End {
+        Err(ListRefusal::NotInForm(line)) => End {
             outcome: 21,
             place: 0,
             offset: 0,
             detail: line,
         },
-        ListEnd::TableFull => End {
+        Err(ListRefusal::TableFull) => End {
             outcome: 14,
             place: 0,
             offset: 0,

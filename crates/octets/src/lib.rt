@@ -6,13 +6,6 @@ ghost use Rattle.std.specs.Prelude.{◌≡◌, ◌-◌, ◌*◌, ◌^◌, ◌<�
 ghost use Rattle.octets.specs.BigEndian.{be_at};
 ghost use Rattle.octets.specs.Signed.{signed_of};
 
-// What a slice writes by sign and size.
-#[derive(Clone, Copy)]
-pub enum Signed {
-    Number(i32),
-    NoNumber,
-}
-
 // An octet, as wide as a number can be.
 fn wide(octet: u8) -> u64
     ensures { result ≡ octet }
@@ -27,10 +20,8 @@ fn big_endian(s: &[u8]) -> u64
         × (result < 256 ^ length s.now) }
 {
     let mut sum: u64 = 0;
-    let mut i: usize = 0;
-    while i < s.len() {
-        sum = sum * 256 + wide(s[i]);
-        i += 1;
+    for octet in s {
+        sum = sum * 256 + wide(*octet);
     }
     sum
 }
@@ -87,20 +78,20 @@ fn minus(size: u64) -> i32
 
 // The number that a slice of 1 to 4 octets writes by sign and size, with one zero; of any other
 // length: no number.
-pub fn sign_and_size(s: &[u8]) -> Signed
+pub fn sign_and_size(s: &[u8]) -> Option<i32>
     ensures { result ≡ signed_of s.now }
 {
     let n = s.len();
     if n < 1 {
-        return Signed::NoNumber;
+        return None;
     }
     if 4 < n {
-        return Signed::NoNumber;
+        return None;
     }
     let size = big_endian(s) % sign_bit(n);
     if s[0] < 128 {
-        Signed::Number(plus(size))
+        Some(plus(size))
     } else {
-        Signed::Number(minus(size))
+        Some(minus(size))
     }
 }

@@ -1,5 +1,5 @@
 -- The order of a message's sections (01, "Order"). It knows section numbers only, no file.
-use Rattle.std.specs.Prelude.{ℕ, ◌+◌, Bool, true, false, not, List, [], ◌∷◌, eqb}
+use Rattle.std.specs.Prelude.{ℕ, ◌+◌, Bool, true, false, not, List, [], ◌∷◌, eqb, Result, Ok, Err, ⊤}
 use Rattle.octets.specs.Words.{pick}
 use Rattle.sections.specs.Kinds.{
   indicator,
@@ -28,8 +28,8 @@ use Rattle.order.specs.declared.Order.TheVariants.{
 }
 use Rattle.order.specs.declared.Judged.{Judged}
 use Rattle.order.specs.declared.Judged.TheVariants.{Fits, Closes, Misplaced, NoGrid}
-use Rattle.order.specs.declared.Verdict.{Verdict}
-use Rattle.order.specs.declared.Verdict.TheVariants as verdict
+use Rattle.order.specs.declared.Disorder.TheVariants.{InputOver, Misplaced, NoGrid}
+use Rattle.order.specs.declared.Disorder.{Disorder}
 
 -- a section of the kind has the number
 abbrev pub is_of : Kind → ℕ → Bool
@@ -99,19 +99,19 @@ unfoldable pub judged_read : Order → ℕ → Judged
 judged_read order number = pick (is_between order) (Fits AfterIndicator) (judged order number)
 
 -- a number at a place, and what the order says of those after it
-abbrev pub then_judged : Judged → ℕ → (Order → Verdict) → Verdict
+abbrev pub then_judged : Judged → ℕ → (Order → Result ⊤ Disorder) → Result ⊤ Disorder
 then_judged (Fits next) place later = later next
 then_judged Closes place later = later BetweenMessages
-then_judged Misplaced place later = verdict.Misplaced (record { 0 = place })
-then_judged NoGrid place later = verdict.NoGrid (record { 0 = place })
+then_judged Misplaced place later = Err (Misplaced (record { 0 = place }))
+then_judged NoGrid place later = Err (NoGrid (record { 0 = place }))
 
 -- a list of numbers, from a place on: the first that can't come next, else whether the list ends
 -- between messages
-unfoldable pub order_from : Order → ℕ → List ℕ → Verdict
-order_from order place [] = pick (is_between order) verdict.Clean verdict.InputOver
+unfoldable pub order_from : Order → ℕ → List ℕ → Result ⊤ Disorder
+order_from order place [] = pick (is_between order) (Ok tt) (Err InputOver)
 order_from order place (number ∷ more) =
     then_judged (judged order number) place (λ next. order_from next (place + 1) more)
 
 -- a whole list of numbers
-unfoldable pub order_of : List ℕ → Verdict
+unfoldable pub order_of : List ℕ → Result ⊤ Disorder
 order_of numbers = order_from BetweenMessages 0 numbers

@@ -45,10 +45,9 @@ pub enum Judged {
     NoGrid,
 }
 
-// What the order says of a whole list of numbers.
+// Why a whole list of numbers is out of order.
 #[derive(Clone, Copy)]
-pub enum Verdict {
-    Clean,
+pub enum Disorder {
     // The list ends inside a message: refusal 10.
     InputOver,
     // The first number that can't come next stands at this place: refusal 11 or 12.
@@ -142,31 +141,26 @@ pub fn completing(order: Order, number: u64) -> bool
 pub fn between_messages(order: Order) -> bool
     ensures { result ≡ is_between order }
 {
-    match order {
-        Order::BetweenMessages => true,
-        _ => false,
-    }
+    matches!(order, Order::BetweenMessages)
 }
 
 // A whole list of numbers: the first that can't come next, else whether the list ends between
 // messages.
-pub fn judge_all(numbers: &[u64]) -> Verdict
+pub fn judge_all(numbers: &[u64]) -> Result<(), Disorder>
     ensures { result ≡ order_of numbers.now }
 {
     let mut order = Order::BetweenMessages;
-    let mut i: usize = 0;
-    while i < numbers.len() {
-        let judged = judge(order, numbers[i]);
+    for (i, number) in numbers.iter().enumerate() {
+        let judged = judge(order, *number);
         match judged {
             Judged::Fits(next) => order = next,
             Judged::Closes => order = Order::BetweenMessages,
-            Judged::Misplaced => return Verdict::Misplaced(Place(i as u64)),
-            Judged::NoGrid => return Verdict::NoGrid(Place(i as u64)),
+            Judged::Misplaced => return Err(Disorder::Misplaced(Place(i as u64))),
+            Judged::NoGrid => return Err(Disorder::NoGrid(Place(i as u64))),
         }
-        i += 1;
     }
     if between_messages(order) {
-        return Verdict::Clean;
+        return Ok(());
     }
-    Verdict::InputOver
+    Err(Disorder::InputOver)
 }

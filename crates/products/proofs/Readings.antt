@@ -1,5 +1,6 @@
 -- The two readings: what they say of 44 and of 47, and that nothing else is corrected, so that they
 -- agree everywhere else.
+use Rattle.std.specs.Prelude.{Option, Some, None}
 use Prim.Native.Nat.{ℕ}
 use native.Mathlib.Omega.{arith}
 use mathlib.Core.Path.{◌≡◌, refl, ap, subst}
@@ -53,17 +54,11 @@ use Rattle.products.specs.Agreement.{
   At47,
   WhereReadingsDiffer,
 }
-use Rattle.products.specs.declared.Supported.{Supported}
-use Rattle.products.specs.declared.Supported.TheVariants.{Template, NoTemplate}
-use Rattle.products.specs.declared.templates.Index.{Index}
-use Rattle.products.specs.declared.templates.Index.TheVariants.{At, Absent}
 use Rattle.products.specs.declared.templates.TimeOctets.{TimeOctets}
 use Rattle.products.specs.declared.templates.TimeOctets.TheVariants.{Four}
 use Rattle.products.specs.declared.templates.TemplateReading.{TemplateReading}
 use Rattle.products.specs.declared.templates.TemplateReading.TheVariants.{AsCrate, ByManual}
 use Rattle.products.specs.declared.templates.Offsets.{Offsets}
-use Rattle.products.specs.declared.MaybeOctet.TheVariants.{NoOctet}
-use Rattle.products.specs.declared.MaybeTime.TheVariants.{NoTime}
 
 -- of both readings, if of each
 pub in_both : {A : Type 0} (f : TemplateReading → A) {a : A} → f AsCrate ≡ a → f ByManual ≡ a
@@ -75,9 +70,9 @@ in_both f c m ByManual = m
 octets_of_lem : Offsets → ℕ
 octets_of_lem o = octets_in o.width
 
-process_of_lem : Index → ℕ
-process_of_lem (At i) = i
-process_of_lem Absent = 0
+process_of_lem : Option ℕ → ℕ
+process_of_lem (Some i) = i
+process_of_lem None = 0
 
 -- what is said of 44 and of 47, and of payloads of theirs, is computed
 pub at_44 : At44
@@ -126,7 +121,7 @@ beside other value k n ne = side (leb k n) (leb n k) refl refl
     side true false d e = refl
     side false v d e = refl
 
-same_process : (other : Index) (n : ℕ) → Not (n ≡ 47) → lookup other n processes_by_manual ≡ other
+same_process : (other : Option ℕ) (n : ℕ) → Not (n ≡ 47) → lookup other n processes_by_manual ≡ other
 unfolding processes_by_manual
 same_process other n ne = beside other _ 47 n ne
 
@@ -146,8 +141,8 @@ one_answer : {A : Type 0} (none : A) (f g : ℕ → A) (s : List ℕ) → f (be_
 unfolding supported_of
 one_answer none f g s e = side (ltb (length s) 4) (is_supported (be_at s 2 2))
   where
-    template : Bool → Bool → Supported
-    template t u = pick t NoTemplate (pick u (Template (be_at s 2 2)) NoTemplate)
+    template : Bool → Bool → Option ℕ
+    template t u = pick t None (pick u (Some (be_at s 2 2)) None)
 
     side : (t u : Bool) → by_template none f (template t u) ≡ by_template none g (template t u)
     side true u = refl
@@ -159,16 +154,16 @@ one_process : (s : List ℕ) → Not (be_at s 2 2 ≡ 47) → process_of ByManua
 unfolding process_of offsets_of as_crate by_reading
 one_process s ne =
     let n = be_at s 2 2 in
-    one_answer NoOctet (λ m. process_at s (offsets_of ByManual m))
+    one_answer None (λ m. process_at s (offsets_of ByManual m))
     (λ m. process_at s (offsets_of AsCrate m)) s
-    (ap (by_index NoOctet octet_of s) (same_process (process_index n) n ne))
+    (ap (by_index None octet_of s) (same_process (process_index n) n ne))
 
 one_time : (s : List ℕ) → Not (be_at s 2 2 ≡ 44) → forecast_of ByManual s ≡ forecast_of AsCrate s
 unfolding forecast_of offsets_of as_crate by_reading
 one_time s ne =
     let n = be_at s 2 2 in
-    one_answer NoTime (λ m. time_at s (offsets_of ByManual m)) (λ m. time_at s (offsets_of AsCrate m)) s
-    (ap (λ (w : TimeOctets). by_index NoTime (time_of w) s (time_index n)) (same_width Four n ne))
+    one_answer None (λ m. time_at s (offsets_of ByManual m)) (λ m. time_at s (offsets_of AsCrate m)) s
+    (ap (λ (w : TimeOctets). by_index None (time_of w) s (time_index n)) (same_width Four n ne))
 
 pub agreement : Agreement
 unfolding product_of fixed_of offsets_of by_reading

@@ -1,5 +1,6 @@
 -- The table says what the ranges say: one test, computed over all rows; and above the last row
 -- every range is over.
+use Rattle.std.specs.Prelude.{Option, Some, None}
 use Prim.Native.Nat.{ℕ, ◌/◌, ◌%◌, ◌<◌}
 use native.Mathlib.Omega.{arith}
 use mathlib.Core.Path.{◌≡◌, refl, sym, ap, subst, ◌∙◌}
@@ -28,26 +29,22 @@ use Rattle.products.specs.Products.{
   product_by,
   product_of,
 }
-use Rattle.products.specs.declared.Supported.{Supported}
-use Rattle.products.specs.declared.Supported.TheVariants.{Template, NoTemplate}
 use Rattle.products.specs.declared.templates.TemplateReading.{TemplateReading}
-use Rattle.products.specs.declared.templates.Index.{Index}
-use Rattle.products.specs.declared.templates.Index.TheVariants.{At, Absent}
 use Rattle.products.proofs.EachEntry.{every, at_each, inside_it}
 use Rattle.products.proofs.Ranges.{past}
 
-same : Index → Index → Bool
-same (At i) (At j) = eqb i j
-same (At i) Absent = false
-same Absent (At j) = false
-same Absent Absent = true
+same : Option ℕ → Option ℕ → Bool
+same (Some i) (Some j) = eqb i j
+same (Some i) None = false
+same None (Some j) = false
+same None None = true
 
-same_is : (a b : Index) → T (same a b) → a ≡ b
+same_is : (a b : Option ℕ) → T (same a b) → a ≡ b
 unfolding same
-same_is (At i) (At j) t = ap At (eqb→eq i j t)
-same_is (At i) Absent t = absurd t
-same_is Absent (At j) t = absurd t
-same_is Absent Absent t = refl
+same_is (Some i) (Some j) t = ap Some (eqb→eq i j t)
+same_is (Some i) None t = absurd t
+same_is None (Some j) t = absurd t
+same_is None None t = refl
 
 -- a row's three columns are what the ranges say of its template
 right : ℕ → ℕ → Bool
@@ -81,17 +78,17 @@ in_every_row n inside =
 none_above : (n : ℕ) → 1101 < n → as_crate n ≡ columns none
 unfolding columns column as_crate process_index processes time_index times surfaces_index surfaces
 none_above n above =
-    let p = past Absent 1102 n processes tt above in
-    let t = past Absent 1102 n times tt above in
-    let s = past Absent 1102 n surfaces tt above in
+    let p = past None 1102 n processes tt above in
+    let t = past None 1102 n times tt above in
+    let s = past None 1102 n surfaces tt above in
     cc
 
-mark_is_none : (octet : ℕ) → column octet ≡ At no → ⊥
+mark_is_none : (octet : ℕ) → column octet ≡ Some no → ⊥
 unfolding column same
 mark_is_none octet e = side (eqb octet no) refl e
   where
-    side : (t : Bool) → eqb octet no ≡ t → pick t Absent (At octet) ≡ At no → ⊥
-    side true d e = subst (λ (i : Index). T (same Absent i)) e tt
+    side : (t : Bool) → eqb octet no ≡ t → pick t None (Some octet) ≡ Some no → ⊥
+    side true d e = subst (λ (i : Option ℕ). T (same None i)) e tt
     side false d e = subst T (sym (eq-eqb octet no (cc)) ∙ d) tt
 
 pub table_is_the_ranges : TableIsTheRanges
@@ -120,7 +117,7 @@ pub product_by_the_table : (reading : TemplateReading) (s : List ℕ)
 unfolding product_by product_of process_of forecast_of fixed_of
 product_by_the_table reading s = by_template_lem (supported_of s) refl
   where
-    by_template_lem : (t : Supported) → supported_of s ≡ t
+    by_template_lem : (t : Option ℕ) → supported_of s ≡ t
         → product_by rows reading s ≡ product_of reading s
-    by_template_lem (Template n) e = rw (e, by_the_table reading n)
-    by_template_lem NoTemplate e = rw e
+    by_template_lem (Some n) e = rw (e, by_the_table reading n)
+    by_template_lem None e = rw e

@@ -1,4 +1,5 @@
 -- What a payload of octets says: numbers of one octet, and a time of at most four.
+use Rattle.std.specs.Prelude.{Option, Some, None, ℤ}
 use Prim.Native.Nat.{ℕ, ◌+◌, ◌≤◌}
 use native.Mathlib.Omega.{arith}
 use mathlib.Core.Path.{◌≡◌, refl, subst}
@@ -9,8 +10,6 @@ use lib.ListN.{length, get_or, take, drop}
 use lib.Seq.{get_or-drop}
 use Rattle.octets.specs.Words.{pick}
 use Rattle.octets.specs.Signed.{signed_of}
-use Rattle.octets.specs.declared.Signed.{Signed}
-use Rattle.octets.specs.declared.Signed.TheVariants.{Number, NoNumber}
 use Rattle.octets.proofs.Laws.{be_lt}
 use Rattle.products.specs.Products.{
   supported_of,
@@ -26,23 +25,11 @@ use Rattle.products.specs.Products.{
   fixed_of,
 }
 use Rattle.products.specs.Readings.{octets_in, offsets_of}
-use Rattle.products.specs.declared.templates.Index.{Index}
-use Rattle.products.specs.declared.templates.Index.TheVariants.{At, Absent}
 use Rattle.products.specs.declared.templates.TimeOctets.{TimeOctets}
 use Rattle.products.specs.declared.templates.TimeOctets.TheVariants.{Two, Four}
 use Rattle.products.specs.declared.templates.TemplateReading.{TemplateReading}
-use Rattle.products.specs.declared.Supported.{Supported}
-use Rattle.products.specs.declared.Supported.TheVariants.{Template, NoTemplate}
-use Rattle.products.specs.declared.MaybeOctet.{MaybeOctet}
-use Rattle.products.specs.declared.MaybeOctet.TheVariants.{Octet, NoOctet}
 use Rattle.products.specs.declared.ForecastTime.{ForecastTime}
-use Rattle.products.specs.declared.MaybeTime.{MaybeTime}
-use Rattle.products.specs.declared.MaybeTime.TheVariants.{Time, NoTime}
 use Rattle.products.specs.declared.FixedSurface.{FixedSurface}
-use Rattle.products.specs.declared.MaybeSurface.{MaybeSurface}
-use Rattle.products.specs.declared.MaybeSurface.TheVariants.{Surface, NoSurface}
-use Rattle.products.specs.declared.MaybeSurfaces.{MaybeSurfaces}
-use Rattle.products.specs.declared.MaybeSurfaces.TheVariants.{Both, NoSurfaces}
 
 abbrev pub Octets : List ℕ → Type 0
 Octets l = (i : ℕ) → get_or l i 0 ≤ 255
@@ -58,17 +45,17 @@ either In false p q = q
 -- by the template, at an index
 module _ {A : Type 0} (In : A → Type 0) {none : A} (fine : In none) {f : ℕ → List ℕ → A}
     (so : (n : ℕ) (s : List ℕ) → Octets s → In (f n s)) (s : List ℕ) (octets : Octets s) where
-  at_index : (n : ℕ) (i : Index) → In (by_index none (f n) s i)
-  at_index n (At i) = so n (drop i (drop 4 s)) (octets_drop i (drop 4 s) (octets_drop 4 s octets))
-  at_index n Absent = fine
+  at_index : (n : ℕ) (i : Option ℕ) → In (by_index none (f n) s i)
+  at_index n (Some i) = so n (drop i (drop 4 s)) (octets_drop i (drop 4 s) (octets_drop 4 s octets))
+  at_index n None = fine
 
-  by_template_lem : (index : ℕ → Index) (t : Supported)
+  by_template_lem : (index : ℕ → Option ℕ) (t : Option ℕ)
       → In (by_template none (λ n. by_index none (f n) s (index n)) t)
-  by_template_lem index (Template n) = at_index n (index n)
-  by_template_lem index NoTemplate = fine
+  by_template_lem index (Some n) = at_index n (index n)
+  by_template_lem index None = fine
 
-module _ (In : MaybeOctet → Type 0) (fine : In NoOctet)
-    (octet : (n : ℕ) → n ≤ 255 → In (Octet n)) where
+module _ (In : Option ℕ → Type 0) (fine : In None)
+    (octet : (n : ℕ) → n ≤ 255 → In (Some n)) where
   octet_within : (s : List ℕ) → Octets s → In (octet_of s)
   unfolding octet_of
   octet_within s octets = either In (ltb (length s) 1) fine (octet (get_or s 0 0) (octets 0))
@@ -76,15 +63,15 @@ module _ (In : MaybeOctet → Type 0) (fine : In NoOctet)
   pub category_within : (s : List ℕ) → Octets s → In (category_of s)
   unfolding category_of
   category_within s octets =
-      by_template_lem In fine (λ n. octet_within) s octets (λ n. At 0) (supported_of s)
+      by_template_lem In fine (λ n. octet_within) s octets (λ n. Some 0) (supported_of s)
 
   pub parameter_within : (s : List ℕ) → Octets s → In (parameter_of s)
   unfolding parameter_of
   parameter_within s octets =
-      by_template_lem In fine (λ n. octet_within) s octets (λ n. At 1) (supported_of s)
+      by_template_lem In fine (λ n. octet_within) s octets (λ n. Some 1) (supported_of s)
 
-module _ (In : MaybeTime → Type 0) (fine : In NoTime)
-    (time : (t : ForecastTime) → t.unit ≤ 255 → t.time ≤ 4294967295 → In (Time t)) where
+module _ (In : Option ForecastTime → Type 0) (fine : In None)
+    (time : (t : ForecastTime) → t.unit ≤ 255 → t.time ≤ 4294967295 → In (Some t)) where
   time_within : (width : TimeOctets) (s : List ℕ) → Octets s → In (time_of width s)
   unfolding time_of octets_in
   time_within Two s octets =
@@ -102,33 +89,33 @@ module _ (In : MaybeTime → Type 0) (fine : In NoTime)
       (λ n. (offsets_of reading n).time) (supported_of s)
 
 -- one surface
-abbrev Within : MaybeSurface → Type 0
-Within (Surface a) = a.surface ≤ 255
-Within NoSurface = Unit
+abbrev Within : Option FixedSurface → Type 0
+Within (Some a) = a.surface ≤ 255
+Within None = Unit
 
 surface_within : (s : List ℕ) → Octets s → Within (surface_of s)
 unfolding surface_of
 surface_within s octets =
     by_signs (signed_of (take 1 (drop 1 s))) (signed_of (take 4 (drop 2 s))) refl refl
   where
-    by_signs : (f v : Signed) → signed_of (take 1 (drop 1 s)) ≡ f → signed_of (take 4 (drop 2 s)) ≡ v
+    by_signs : (f v : Option ℤ) → signed_of (take 1 (drop 1 s)) ≡ f → signed_of (take 4 (drop 2 s)) ≡ v
         → Within (surface_of s)
-    by_signs (Number f) (Number v) p q = rw (p, q) (either Within (ltb (length s) 6) tt (octets 0))
-    by_signs (Number f) NoNumber p q = rw (p, q) (either Within (ltb (length s) 6) tt tt)
-    by_signs NoNumber v p q = rw p (either Within (ltb (length s) 6) tt tt)
+    by_signs (Some f) (Some v) p q = rw (p, q) (either Within (ltb (length s) 6) tt (octets 0))
+    by_signs (Some f) None p q = rw (p, q) (either Within (ltb (length s) 6) tt tt)
+    by_signs None v p q = rw p (either Within (ltb (length s) 6) tt tt)
 
-module _ (In : MaybeSurfaces → Type 0) (fine : In NoSurfaces)
-    (pair : (a b : FixedSurface) → a.surface ≤ 255 → In (Both a b)) where
+module _ (In : Option (FixedSurface × FixedSurface) → Type 0) (fine : In None)
+    (pair : (a b : FixedSurface) → a.surface ≤ 255 → In (Some (a, b))) where
   surfaces_within : (s : List ℕ) → Octets s → In (surfaces_of s)
   unfolding surfaces_of
   surfaces_within s octets = by_both (surface_of s) (surface_of (drop 6 s)) refl refl
     where
-      by_both : (a b : MaybeSurface) → surface_of s ≡ a → surface_of (drop 6 s) ≡ b
+      by_both : (a b : Option FixedSurface) → surface_of s ≡ a → surface_of (drop 6 s) ≡ b
           → In (surfaces_of s)
-      by_both (Surface a) (Surface b) p q =
+      by_both (Some a) (Some b) p q =
           rw (p, q) (pair a b (subst Within p (surface_within s octets)))
-      by_both (Surface a) NoSurface p q = rw (p, q) fine
-      by_both NoSurface b p q = rw p fine
+      by_both (Some a) None p q = rw (p, q) fine
+      by_both None b p q = rw p fine
 
   pub fixed_within : (reading : TemplateReading) (s : List ℕ) → Octets s → In (fixed_of reading s)
   unfolding fixed_of

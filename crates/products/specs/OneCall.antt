@@ -1,18 +1,16 @@
 -- When and where in one call (02, Ticket 12: "One call on one payload, under either reading of
 -- Ticket 6, answers the time or none, and the surfaces or none, each as before"). The statements
 -- are proved in proofs/, under their names in small letters.
-use Rattle.std.specs.Prelude.{ℕ, ◌≡◌, List, [], ◌∷◌, ◌++◌, replicate}
+use Rattle.std.specs.Prelude.{ℕ, ◌≡◌, List, [], ◌∷◌, ◌++◌, replicate, Option, None}
 use Rattle.octets.specs.Words.{Not}
 use Rattle.octets.specs.BigEndian.{be_at}
 use Rattle.products.specs.Products.{when_where_of, product_of}
 use Rattle.products.specs.Agreement.{dust, two_surfaces, said_surfaces, said}
 use Rattle.products.specs.declared.templates.TemplateReading.{TemplateReading}
 use Rattle.products.specs.declared.templates.TemplateReading.TheVariants.{AsCrate, ByManual}
-use Rattle.products.specs.declared.MaybeTime.{MaybeTime}
-use Rattle.products.specs.declared.MaybeTime.TheVariants.{NoTime}
-use Rattle.products.specs.declared.MaybeSurfaces.{MaybeSurfaces}
-use Rattle.products.specs.declared.MaybeSurfaces.TheVariants.{NoSurfaces}
 use Rattle.products.specs.declared.WhenWhere.{WhenWhere}
+use Rattle.products.specs.declared.FixedSurface.{FixedSurface}
+use Rattle.products.specs.declared.ForecastTime.{ForecastTime}
 
 -- each as before: what the same payload has among its five product fields; and the readings differ
 -- in the time of a 44 alone
@@ -29,7 +27,7 @@ abbrev pub telling : ℕ → ℕ → List ℕ → List ℕ
 telling template zeros behind = 0 ∷ 0 ∷ 0 ∷ template ∷ replicate zeros 0 ++ behind
 
 -- an answer of the two
-abbrev answer : MaybeTime → MaybeSurfaces → WhenWhere
+abbrev answer : Option ForecastTime → Option (FixedSurface × FixedSurface) → WhenWhere
 answer time surfaces = record { time = time; surfaces = surfaces }
 
 -- either is there without the other: 32 has an index for its time alone; 88 has its surfaces at 5,
@@ -39,17 +37,17 @@ answer time surfaces = record { time = time; surfaces = surfaces }
 pub record EachByItself : Type 0 where
   pub of_32 : (reading : TemplateReading)
       → when_where_of reading (telling 32 8 (1 ∷ 0 ∷ 0 ∷ 0 ∷ 6 ∷ two_surfaces))
-      ≡ answer (said 6) NoSurfaces
+      ≡ answer (said 6) None
   pub of_88 : (reading : TemplateReading)
-      → when_where_of reading (telling 88 5 two_surfaces) ≡ answer NoTime said_surfaces
+      → when_where_of reading (telling 88 5 two_surfaces) ≡ answer None said_surfaces
   pub of_0 : (reading : TemplateReading)
       → when_where_of reading (telling 0 8 (1 ∷ 0 ∷ 0 ∷ 0 ∷ 6 ∷ two_surfaces))
       ≡ answer (said 6) said_surfaces
   pub of_0_ended : (reading : TemplateReading)
-      → when_where_of reading (telling 0 8 (1 ∷ 0 ∷ 0 ∷ 0 ∷ 6 ∷ 5 ∷ [])) ≡ answer (said 6) NoSurfaces
+      → when_where_of reading (telling 0 8 (1 ∷ 0 ∷ 0 ∷ 0 ∷ 6 ∷ 5 ∷ [])) ≡ answer (said 6) None
   pub of_64 : (reading : TemplateReading)
       → when_where_of reading (telling 64 8 (1 ∷ 0 ∷ 0 ∷ 0 ∷ 6 ∷ two_surfaces))
-      ≡ answer NoTime NoSurfaces
+      ≡ answer None None
   pub of_44_by_manual : when_where_of ByManual (dust (0 ∷ 6 ∷ two_surfaces))
       ≡ answer (said 6) said_surfaces
   pub of_44_as_crate : when_where_of AsCrate (dust (0 ∷ 6 ∷ two_surfaces))

@@ -1,10 +1,8 @@
 -- Two readings of a template (02, Ticket 6): as the crate, which is 01's, and by the Manual. What
 -- the Manual has otherwise stands before what 01's ranges say; all else is the same in both.
-use Rattle.std.specs.Prelude.{ℕ, List, [], ◌∷◌}
+use Rattle.std.specs.Prelude.{ℕ, List, [], ◌∷◌, Option, Some}
 use Rattle.products.specs.Ranges.{Range, ◌to◌is◌, lookup}
 use Rattle.products.specs.Templates.{process_index, time_index, surfaces_index}
-use Rattle.products.specs.declared.templates.Index.{Index}
-use Rattle.products.specs.declared.templates.Index.TheVariants.{At}
 use Rattle.products.specs.declared.templates.TimeOctets.{TimeOctets}
 use Rattle.products.specs.declared.templates.TimeOctets.TheVariants.{Two, Four}
 use Rattle.products.specs.declared.templates.TemplateReading.{TemplateReading}
@@ -12,8 +10,8 @@ use Rattle.products.specs.declared.templates.TemplateReading.TheVariants.{AsCrat
 use Rattle.products.specs.declared.templates.Offsets.{Offsets}
 
 -- 4.47: the type of generating process is octet 25, as in 4.44 to 4.46
-unfoldable pub processes_by_manual : List (Range Index)
-processes_by_manual = (47 to 47 is At 15) ∷ []
+unfoldable pub processes_by_manual : List (Range (Option ℕ))
+processes_by_manual = (47 to 47 is Some 15) ∷ []
 
 -- 4.44: the time is the octets 32 and 33
 unfoldable pub widths_by_manual : List (Range TimeOctets)

@@ -2,11 +2,9 @@
 -- template 0 to 1101, with three columns: generating process, time, surfaces, and a mark for "no
 -- index""), and that it says what 01's ranges say. The proof of `offsets_at` holds the code's table
 -- to these rows.
-use Rattle.std.specs.Prelude.{ℕ, ◌+◌, ◌*◌, ◌/◌, ◌%◌, ◌<◌, ◌≡◌, List, [], ◌∷◌, eqb, length, get_or}
+use Rattle.std.specs.Prelude.{ℕ, ◌+◌, ◌*◌, ◌/◌, ◌%◌, ◌<◌, ◌≡◌, List, [], ◌∷◌, eqb, length, get_or, Option, Some, None}
 use Rattle.octets.specs.Words.{pick}
 use Rattle.products.specs.Readings.{as_crate, by_reading}
-use Rattle.products.specs.declared.templates.Index.{Index}
-use Rattle.products.specs.declared.templates.Index.TheVariants.{At, Absent}
 use Rattle.products.specs.declared.templates.TimeOctets.TheVariants.{Four}
 use Rattle.products.specs.declared.templates.TemplateReading.{TemplateReading}
 use Rattle.products.specs.declared.templates.Offsets.{Offsets}
@@ -24,8 +22,8 @@ abbrev pub none : ℕ
 none = row no no no
 
 -- what a column says: an index, or none where the mark stands
-unfoldable pub column : ℕ → Index
-column octet = pick (eqb octet no) Absent (At octet)
+unfoldable pub column : ℕ → Option ℕ
+column octet = pick (eqb octet no) None (Some octet)
 
 -- what a row says: a template as the crate has it, with a time of four octets
 unfoldable pub columns : ℕ → Offsets
@@ -198,4 +196,4 @@ pub record TableIsTheRanges : Type 0 where
   pub in_every_row : (template : ℕ) → template < 1102
       → columns (get_or rows template none) ≡ as_crate template
   pub none_above : (template : ℕ) → 1101 < template → as_crate template ≡ columns none
-  pub mark_is_none : (octet : ℕ) → column octet ≡ At no → ⊥
+  pub mark_is_none : (octet : ℕ) → column octet ≡ Some no → ⊥

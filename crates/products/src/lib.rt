@@ -3,19 +3,18 @@
 // `templates`.
 #![tactic(auto)]
 
-ghost use Rattle.std.specs.Prelude.{◌≡◌, drop};
+ghost use Rattle.std.specs.Prelude.{◌≡◌, ℕ, List, drop, Option, None};
+ghost use Rattle.std.specs.Fn.{FnReturnsAt};
+ghost use Rattle.products.specs.Reads.{Reads};
 ghost use Rattle.products.specs.Products.{octet_of, time_of, surface_of, surfaces_of};
 ghost use Rattle.products.specs.Products.{supported_of, by_index, when_where_of};
 ghost use Rattle.products.specs.Products.{product_by, product_of};
-ghost use Rattle.products.specs.declared.MaybeOctet.TheVariants.{NoOctet};
-ghost use Rattle.products.specs.declared.MaybeTime.TheVariants.{NoTime};
-ghost use Rattle.products.specs.declared.MaybeSurfaces.TheVariants.{NoSurfaces};
 
 mod templates;
 
-use octets::{Signed, be16, be32, sign_and_size};
+use octets::{be16, be32, sign_and_size};
 use sections::ProdDefinition;
-pub use templates::{Index, Offsets, ROWS, TemplateReading, TimeOctets, offsets_at, offsets_by};
+pub use templates::{Offsets, ROWS, TemplateReading, TimeOctets, offsets_at, offsets_by};
 
 // The template's first octet, and where each template has the parameter's category and number.
 const TEMPLATE: usize = 4;
@@ -25,22 +24,10 @@ const CATEGORY: usize = 0;
 const PARAMETER: usize = 1;
 
 #[derive(Clone, Copy)]
-pub enum MaybeOctet {
-    Octet(u8),
-    NoOctet,
-}
-
-#[derive(Clone, Copy)]
 pub struct ForecastTime {
     // Code table 4.4
     pub unit: u8,
     pub time: u32,
-}
-
-#[derive(Clone, Copy)]
-pub enum MaybeTime {
-    Time(ForecastTime),
-    NoTime,
 }
 
 #[derive(Clone, Copy)]
@@ -51,41 +38,22 @@ pub struct FixedSurface {
     pub value: i32,
 }
 
-#[derive(Clone, Copy)]
-enum MaybeSurface {
-    Surface(FixedSurface),
-    NoSurface,
-}
-
-#[derive(Clone, Copy)]
-pub enum MaybeSurfaces {
-    Both(FixedSurface, FixedSurface),
-    NoSurfaces,
-}
-
 // When and where, of one payload: the time or none, and the surfaces or none.
 #[derive(Clone, Copy)]
 pub struct WhenWhere {
-    pub time: MaybeTime,
-    pub surfaces: MaybeSurfaces,
+    pub time: Option<ForecastTime>,
+    pub surfaces: Option<(FixedSurface, FixedSurface)>,
 }
 
 // What a payload of section 4 says by its template. Category and number are of the code tables 4.1
 // and 4.2, the generating process of 4.3.
 #[derive(Clone, Copy)]
 pub struct Product {
-    pub category: MaybeOctet,
-    pub number: MaybeOctet,
-    pub process: MaybeOctet,
-    pub time: MaybeTime,
-    pub surfaces: MaybeSurfaces,
-}
-
-// The template number of a payload that has a supported one.
-#[derive(Clone, Copy)]
-enum Supported {
-    Template(u16),
-    NoTemplate,
+    pub category: Option<u8>,
+    pub number: Option<u8>,
+    pub process: Option<u8>,
+    pub time: Option<ForecastTime>,
+    pub surfaces: Option<(FixedSurface, FixedSurface)>,
 }
 
 // What is left of a slice from octet `at` on: nothing, where it ends before.
@@ -99,55 +67,46 @@ fn from(s: &[u8], at: usize) -> &[u8]
 }
 
 // The first of these octets.
-fn octet_of(s: &[u8]) -> MaybeOctet
+fn octet_of(s: &[u8]) -> Option<u8>
     ensures { result ≡ octet_of s.now }
 {
     if s.len() < 1 {
-        return MaybeOctet::NoOctet;
+        return None;
     }
-    MaybeOctet::Octet(s[0])
+    Some(s[0])
 }
 
 // The unit and the time, which has so many octets, at the start of these octets.
-fn time_of(s: &[u8], width: TimeOctets) -> MaybeTime
+fn time_of(s: &[u8], width: TimeOctets) -> Option<ForecastTime>
     ensures { result ≡ time_of width s.now }
 {
-    match width {
-        TimeOctets::Two => {
-            if s.len() < 3 {
-                return MaybeTime::NoTime;
-            }
-            MaybeTime::Time(ForecastTime {
-                unit: s[0],
-                time: be16([s[1], s[2]]) as u32,
-            })
-        }
-        TimeOctets::Four => {
-            if s.len() < 5 {
-                return MaybeTime::NoTime;
-            }
-            MaybeTime::Time(ForecastTime {
-                unit: s[0],
-                time: be32([s[1], s[2], s[3], s[4]]),
-            })
-        }
+    match (width, s) {
+        (TimeOctets::Two, [unit, a, b, ..]) => Some(ForecastTime {
+            unit: *unit,
+            time: be16([*a, *b]) as u32,
+        }),
+        (TimeOctets::Four, [unit, a, b, c, d, ..]) => Some(ForecastTime {
+            unit: *unit,
+            time: be32([*a, *b, *c, *d]),
+        }),
+        _ => None,
     }
 }
 
 // The surface at the start of these octets.
-fn surface_of(s: &[u8]) -> MaybeSurface
+fn surface_of(s: &[u8]) -> Option<FixedSurface>
     ensures { result ≡ surface_of s.now }
 {
     if s.len() < 6 {
-        return MaybeSurface::NoSurface;
+        return None;
     }
-    let Signed::Number(factor) = sign_and_size(&s[1..2]) else {
-        return MaybeSurface::NoSurface;
+    let Some(factor) = sign_and_size(&s[1..2]) else {
+        return None;
     };
-    let Signed::Number(value) = sign_and_size(&s[2..6]) else {
-        return MaybeSurface::NoSurface;
+    let Some(value) = sign_and_size(&s[2..6]) else {
+        return None;
     };
-    MaybeSurface::Surface(FixedSurface {
+    Some(FixedSurface {
         surface: s[0],
         factor,
         value,
@@ -155,61 +114,48 @@ fn surface_of(s: &[u8]) -> MaybeSurface
 }
 
 // The two surfaces at the start of these octets: both or none.
-fn surfaces_of(s: &[u8]) -> MaybeSurfaces
+fn surfaces_of(s: &[u8]) -> Option<(FixedSurface, FixedSurface)>
     ensures { result ≡ surfaces_of s.now }
 {
-    let MaybeSurface::Surface(first) = surface_of(s) else {
-        return MaybeSurfaces::NoSurfaces;
+    let Some(first) = surface_of(s) else {
+        return None;
     };
-    let MaybeSurface::Surface(second) = surface_of(from(s, 6)) else {
-        return MaybeSurfaces::NoSurfaces;
+    let Some(second) = surface_of(from(s, 6)) else {
+        return None;
     };
-    MaybeSurfaces::Both(first, second)
+    Some((first, second))
 }
 
 // The template number, where the payload has one and it is supported.
-fn supported_of(payload: &[u8]) -> Supported
+fn supported_of(payload: &[u8]) -> Option<u16>
     ensures { result ≡ supported_of payload.now }
 {
     if payload.len() < ProdDefinition::LEAST_PAYLOAD {
-        return Supported::NoTemplate;
+        return None;
     }
     let template = be16([payload[2], payload[3]]);
     if templates::supported(template) {
-        Supported::Template(template)
+        Some(template)
     } else {
-        Supported::NoTemplate
+        None
     }
 }
 
-// The octet at an index of the payload's template.
-fn octet_at(payload: &[u8], index: Index) -> MaybeOctet
-    ensures { result ≡ by_index NoOctet octet_of payload.now index }
+// What a reader finds at an index of the payload's template. Both callers hand over a closure of
+// their own for the surfaces: the compiler then makes no call of it.
+fn field_at<T, F: Fn(&[u8]) -> Option<T>>(
+    payload: &[u8],
+    index: Option<usize>,
+    read: F,
+) -> Option<T>
+    requires { F.IsAlwaysCallable read }
+    ensures { (field : List ℕ → Option T) → Reads (FnReturnsAt F.Fn read) field
+        → result ≡ by_index None field payload.now index }
 {
-    let Index::At(at) = index else {
-        return MaybeOctet::NoOctet;
+    let Some(at) = index else {
+        return None;
     };
-    octet_of(from(from(payload, TEMPLATE), at))
-}
-
-// The time, which has so many octets, at an index of the payload's template.
-fn time_at(payload: &[u8], index: Index, width: TimeOctets) -> MaybeTime
-    ensures { result ≡ by_index NoTime (time_of width) payload.now index }
-{
-    let Index::At(at) = index else {
-        return MaybeTime::NoTime;
-    };
-    time_of(from(from(payload, TEMPLATE), at), width)
-}
-
-// The surfaces at an index of the payload's template.
-fn surfaces_at(payload: &[u8], index: Index) -> MaybeSurfaces
-    ensures { result ≡ by_index NoSurfaces surfaces_of payload.now index }
-{
-    let Index::At(at) = index else {
-        return MaybeSurfaces::NoSurfaces;
-    };
-    surfaces_of(from(from(payload, TEMPLATE), at))
+    read(from(from(payload, TEMPLATE), at))
 }
 
 // When and where a payload of section 4 says that its field is, by a reading: the time or none, and
@@ -218,10 +164,10 @@ fn surfaces_at(payload: &[u8], index: Index) -> MaybeSurfaces
 pub fn when_and_where(reading: TemplateReading, payload: &[u8]) -> WhenWhere
     ensures { result ≡ when_where_of reading payload.now }
 {
-    let Supported::Template(template) = supported_of(payload) else {
+    let Some(template) = supported_of(payload) else {
         return WhenWhere {
-            time: MaybeTime::NoTime,
-            surfaces: MaybeSurfaces::NoSurfaces,
+            time: None,
+            surfaces: None,
         };
     };
     let offsets = offsets_at(reading, template);
@@ -229,8 +175,8 @@ pub fn when_and_where(reading: TemplateReading, payload: &[u8]) -> WhenWhere
     let width = offsets.width;
     let first = offsets.surfaces;
     WhenWhere {
-        time: time_at(payload, unit, width),
-        surfaces: surfaces_at(payload, first),
+        time: field_at(payload, unit, |octets| time_of(octets, width)),
+        surfaces: field_at(payload, first, |octets| surfaces_of(octets)),
     }
 }
 
@@ -241,17 +187,17 @@ pub fn when_and_where(reading: TemplateReading, payload: &[u8]) -> WhenWhere
 pub fn product_by(rows: &[u32], reading: TemplateReading, payload: &[u8]) -> Product
     ensures { result ≡ product_by rows.now reading payload.now }
 {
-    let Supported::Template(template) = supported_of(payload) else {
+    let Some(template) = supported_of(payload) else {
         return Product {
-            category: MaybeOctet::NoOctet,
-            number: MaybeOctet::NoOctet,
-            process: MaybeOctet::NoOctet,
-            time: MaybeTime::NoTime,
-            surfaces: MaybeSurfaces::NoSurfaces,
+            category: None,
+            number: None,
+            process: None,
+            time: None,
+            surfaces: None,
         };
     };
-    let category = octet_at(payload, Index::At(CATEGORY));
-    let number = octet_at(payload, Index::At(PARAMETER));
+    let category = field_at(payload, Some(CATEGORY), octet_of);
+    let number = field_at(payload, Some(PARAMETER), octet_of);
     let offsets = offsets_by(rows, reading, template);
     let process = offsets.process;
     let time = offsets.time;
@@ -260,9 +206,9 @@ pub fn product_by(rows: &[u32], reading: TemplateReading, payload: &[u8]) -> Pro
     Product {
         category,
         number,
-        process: octet_at(payload, process),
-        time: time_at(payload, time, width),
-        surfaces: surfaces_at(payload, surfaces),
+        process: field_at(payload, process, octet_of),
+        time: field_at(payload, time, |octets| time_of(octets, width)),
+        surfaces: field_at(payload, surfaces, |octets| surfaces_of(octets)),
     }
 }
 

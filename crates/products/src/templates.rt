@@ -7,13 +7,6 @@ ghost use Rattle.products.specs.Readings.{by_reading, offsets_of};
 ghost use Rattle.products.specs.Rows.{none, column, columns, offsets_by};
 ghost use Rattle.products.specs.declared.templates.TemplateReading.TheVariants.{ByManual};
 
-// An octet of a template, counted from the template's first one.
-#[derive(Clone, Copy)]
-pub enum Index {
-    At(usize),
-    Absent,
-}
-
 // By whom templates are read (document 02, Ticket 6): as the crate and document 01 do, or by the
 // Manual. They differ in the time of 4.44 and in the generating process of 4.47. A caller names
 // one.
@@ -34,10 +27,10 @@ pub enum TimeOctets {
 // time with the time, so many octets wide, behind it, the first surface with the second behind it.
 #[derive(Clone, Copy)]
 pub struct Offsets {
-    pub process: Index,
-    pub time: Index,
+    pub process: Option<usize>,
+    pub time: Option<usize>,
     pub width: TimeOctets,
-    pub surfaces: Index,
+    pub surfaces: Option<usize>,
 }
 
 // Is this a product definition template that we know (WMO Code table 4.0, version 30)?
@@ -63,13 +56,13 @@ pub(crate) fn supported(template: u16) -> bool
 }
 
 // A column of a row: an index, or none where the mark stands.
-fn column_of(octet: u32) -> Index
+fn column_of(octet: u32) -> Option<usize>
     ensures { result ≡ column octet }
 {
     if octet == NO {
-        return Index::Absent;
+        return None;
     }
-    Index::At(octet as usize)
+    Some(octet as usize)
 }
 
 // What a row says of its template, as the crate has it. A template behind the last row has no
@@ -80,10 +73,10 @@ fn row_of(rows: &[u32], template: u16) -> Offsets
     let at = template as usize;
     if rows.len() <= at {
         return Offsets {
-            process: Index::Absent,
-            time: Index::Absent,
+            process: None,
+            time: None,
             width: TimeOctets::Four,
-            surfaces: Index::Absent,
+            surfaces: None,
         };
     }
     let row = rows[at];
@@ -106,7 +99,7 @@ fn by_manual(template: u16, as_crate: Offsets) -> Offsets
             ..as_crate
         },
         47 => Offsets {
-            process: Index::At(15),
+            process: Some(15),
             ..as_crate
         },
         _ => as_crate,

@@ -1,5 +1,22 @@
 -- Each public function gives its definition (specs/Public.antt): its contract says so, and it meets
 -- its contract.
+use denote.Struct.Laws.{unit-plain, u64-plain, usize-plain}
+use Rattle.std.specs.Borrow.{unit, u64, usize}
+use Rattle.std.specs.contracts.option.Option as options
+use Rattle.std.proofs.option.Option.TheLaws as OptionLaws
+use Rattle.std.specs.contracts.result.Result as results
+use Rattle.std.proofs.result.Result.TheLaws as ResultLaws
+use Rattle.index.specs.contracts.refusal.Refused as Refused
+use Rattle.index.proofs.refusal.Refused.TheLaws as RefusedLaws
+use Rattle.publish.specs.contracts.CopyRefusal as CopyRefusal
+use Rattle.publish.proofs.CopyRefusal.TheLaws as CopyRefusalLaws
+use Rattle.writer.specs.contracts.WriteRefusal as WriteRefusal
+use Rattle.writer.proofs.WriteRefusal.TheLaws as WriteRefusalLaws
+use Rattle.inventory.specs.contracts.InventoryRefusal as InventoryRefusal
+use Rattle.inventory.proofs.InventoryRefusal.TheLaws as InventoryRefusalLaws
+use Rattle.lists.specs.contracts.ListRefusal as ListRefusal
+use Rattle.lists.proofs.ListRefusal.TheLaws as ListRefusalLaws
+use Rattle.std.specs.Prelude.{Option, Result}
 use Prim.Native.Nat.{ℕ}
 use mathlib.Core.List.{List, [], ◌∷◌}
 use mathlib.Core.Path.{◌≡◌, refl, ap}
@@ -47,33 +64,20 @@ use Rattle.order.specs.contracts.Place as Place
 use Rattle.order.proofs.Place.TheLaws as PlaceLaws
 use Rattle.index.specs.contracts.line.Force as Force
 use Rattle.index.proofs.line.Force.TheLaws as ForceLaws
-use Rattle.index.specs.contracts.line.MessageEnd as MessageEnd
-use Rattle.index.proofs.line.MessageEnd.TheLaws as MessageEndLaws
 use Rattle.index.specs.contracts.line.Span as Span
 use Rattle.index.proofs.line.Span.TheLaws as SpanLaws
 use Rattle.index.specs.contracts.line.Line as Line
 use Rattle.index.proofs.line.Line.TheLaws as LineLaws
-use Rattle.index.specs.contracts.refusal.Outcome as Outcome
-use Rattle.index.proofs.refusal.Outcome.TheLaws as OutcomeLaws
 use Rattle.reading.specs.contracts.Reading as Reading
 use Rattle.reading.proofs.Reading.TheLaws as ReadingLaws
 use Rattle.standing.specs.contracts.Standing as Standing
 use Rattle.standing.proofs.Standing.TheLaws as StandingLaws
 use Rattle.pull.specs.contracts.Progress as Progress
 use Rattle.pull.proofs.Progress.TheLaws as ProgressLaws
-use Rattle.publish.specs.contracts.Published as Published
-use Rattle.publish.proofs.Published.TheLaws as PublishedLaws
-use Rattle.writer.specs.contracts.Written as Written
-use Rattle.writer.proofs.Written.TheLaws as WrittenLaws
 use Rattle.entries.specs.contracts.Entry as Entry
 use Rattle.entries.proofs.Entry.TheLaws as EntryLaws
-use Rattle.inventory.specs.contracts.Inventoried as Inventoried
-use Rattle.inventory.proofs.Inventoried.TheLaws as InventoriedLaws
-use Rattle.lists.specs.contracts.ListEnd as ListEnd
-use Rattle.lists.proofs.ListEnd.TheLaws as ListEndLaws
 use Rattle.framing.proofs.NextStart.{next_start_is}
 use Rattle.pull.specs.declared.Progress.{Progress}
-use Rattle.pull.specs.declared.Pulled.{Pulled}
 use Rattle.promises.specs.Public.{PublicFunctions, EachGivesItsDefinition}
 use Rattle.promises.proofs.Called.{
   Plain,
@@ -87,6 +91,8 @@ use Rattle.promises.proofs.Called.{
 }
 use Rattle.promises.proofs.NextCalled.{next_can_be_called}
 use Rattle.promises.proofs.Told.{both, three, promised}
+use Rattle.index.specs.declared.listed.Listed.{Listed}
+use Rattle.index.specs.declared.refusal.Refused.{Refused}
 
 -- what is passed by value, and what stands in lent slices
 plain_number : (w : Width) → Plain (UInt w)
@@ -110,9 +116,9 @@ plain-Order = record { pure = λ d. OrderLaws.the_field_plain (Order.the_type.to
 plain-Place : Plain Place.the_row
 plain-Place = record { pure = λ d. PlaceLaws.the_field_plain (Place.the_type.to d) }
 
-plain-MessageEnd : Plain MessageEnd.the_row
-plain-MessageEnd = record {
-  pure = λ d. MessageEndLaws.the_field_plain (MessageEnd.the_type.to d);
+plain-place_or_none : Plain (options.the_row Place.the_row)
+plain-place_or_none = record {
+  pure = λ d. OptionLaws.the_field_plain Place.the_row PlaceLaws.the_row_plain ((options.the_type Place.the_row).to d);
 }
 
 plain-Span : Plain Span.the_row
@@ -124,8 +130,10 @@ plain-Force = record { pure = λ d. ForceLaws.the_field_plain (Force.the_type.to
 plain-Line : Plain Line.the_row
 plain-Line = record { pure = λ d. LineLaws.the_field_plain (Line.the_type.to d) }
 
-plain-Outcome : Plain Outcome.the_row
-plain-Outcome = record { pure = λ d. OutcomeLaws.the_field_plain (Outcome.the_type.to d) }
+plain-Outcome : Plain (results.the_row unit Refused.the_row)
+plain-Outcome = record {
+  pure = λ d. ResultLaws.the_field_plain unit Refused.the_row unit-plain RefusedLaws.the_row_plain ((results.the_type unit Refused.the_row).to d);
+}
 
 plain-Reading : Plain Reading.the_row
 plain-Reading = record { pure = λ d. ReadingLaws.the_field_plain (Reading.the_type.to d) }
@@ -143,22 +151,28 @@ plain-TemplateReading =
 plain-Progress : Plain Progress.the_row
 plain-Progress = record { pure = λ d. ProgressLaws.the_field_plain (Progress.the_type.to d) }
 
-plain-Published : Plain Published.the_row
-plain-Published = record { pure = λ d. PublishedLaws.the_field_plain (Published.the_type.to d) }
+plain-copied : Plain (results.the_row usize CopyRefusal.the_row)
+plain-copied = record {
+  pure = λ d. ResultLaws.the_field_plain usize CopyRefusal.the_row usize-plain CopyRefusalLaws.the_row_plain ((results.the_type usize CopyRefusal.the_row).to d);
+}
 
-plain-Written : Plain Written.the_row
-plain-Written = record { pure = λ d. WrittenLaws.the_field_plain (Written.the_type.to d) }
+plain-written : Plain (results.the_row u64 WriteRefusal.the_row)
+plain-written = record {
+  pure = λ d. ResultLaws.the_field_plain u64 WriteRefusal.the_row u64-plain WriteRefusalLaws.the_row_plain ((results.the_type u64 WriteRefusal.the_row).to d);
+}
 
 plain-Entry : Plain Entry.the_row
 plain-Entry = record { pure = λ d. EntryLaws.the_field_plain (Entry.the_type.to d) }
 
-plain-Inventoried : Plain Inventoried.the_row
-plain-Inventoried = record {
-  pure = λ d. InventoriedLaws.the_field_plain (Inventoried.the_type.to d);
+plain-inventoried : Plain (results.the_row usize InventoryRefusal.the_row)
+plain-inventoried = record {
+  pure = λ d. ResultLaws.the_field_plain usize InventoryRefusal.the_row usize-plain InventoryRefusalLaws.the_row_plain ((results.the_type usize InventoryRefusal.the_row).to d);
 }
 
-plain-ListEnd : Plain ListEnd.the_row
-plain-ListEnd = record { pure = λ d. ListEndLaws.the_field_plain (ListEnd.the_type.to d) }
+plain-list_end : Plain (results.the_row unit ListRefusal.the_row)
+plain-list_end = record {
+  pure = λ d. ResultLaws.the_field_plain unit ListRefusal.the_row unit-plain ListRefusalLaws.the_row_plain ((results.the_type unit ListRefusal.the_row).to d);
+}
 
 line : Element Line.the_row
 line = record {
@@ -173,9 +187,9 @@ one_reader : {file held : Bor (List ℕ)} {progress first : Progress} → held �
     → ◌≡◌ {A = List ℕ × Progress} (held.now, progress) (file.now, first)
 one_reader h p = rw (h, p)
 
-one_turn : {answer one : Pulled} {file held : Bor (List ℕ)} {progress next : Progress}
+one_turn : {answer one : Option (Result Listed Refused)} {file held : Bor (List ℕ)} {progress next : Progress}
     → answer ≡ one → held ≡ file → progress ≡ next
-    → ◌≡◌ {A = Pulled × List ℕ × Progress} (answer, held.now, progress) (one, file.now, next)
+    → ◌≡◌ {A = (Option (Result Listed Refused)) × List ℕ × Progress} (answer, held.now, progress) (one, file.now, next)
 one_turn a h p = rw (a, h, p)
 
 module _ {M : Type 1} where
@@ -257,7 +271,7 @@ module _ {M : Type 1} where
     index_with_submessage = by 0 (by_value plain-Force ∷ by_value (plain_number w64) ∷ [])
         (λ n. refl) (λ 𝓤 𝓛 content run κs a. tt) index.with_submessage.Met.met
         (λ n r e. id⊢ n.memory _);
-    index_line_of = by 0 (by_value plain-Force ∷ by_value plain-MessageEnd ∷ []) (λ n. refl)
+    index_line_of = by 0 (by_value plain-Force ∷ by_value plain-place_or_none ∷ []) (λ n. refl)
         (λ 𝓤 𝓛 content run κs a. tt) index.line_of.Met.met (λ n r e. id⊢ n.memory _);
     index_unlisted = by 0 [] (λ n. refl) (λ 𝓤 𝓛 content run κs a. tt) index.unlisted.Met.met
         (λ n r e. id⊢ n.memory _);
@@ -286,6 +300,10 @@ module _ {M : Type 1} where
         (to_write 0 tt (number w64) ∷ by_value (plain_number w64) ∷ by_value plain-Section ∷ [])
         (λ n. refl) (λ 𝓤 𝓛 content run κs a. tt) standing.put_row.Met.met
         (λ n r e. fact_mono n.memory _ _ (λ same. ap (λ (rows : List ℕ). (r, rows)) same));
+    standing_put_numbers = by 2
+        (to_write 0 tt (number w64) ∷ by_value (plain_number w64) ∷ to_read 1 tt (read w64) ∷ [])
+        (λ n. refl) (λ 𝓤 𝓛 content run κs a. tt) standing.put_numbers.Met.met
+        (λ n r e. fact_mono n.memory _ _ (λ same. ap (λ (table : List ℕ). (r, table)) same));
     walk_walk = by 3
         (to_read 0 tt (read w8) ∷ to_write 1 tt (number w64) ∷ to_write 2 tt line ∷ [])
         (λ n. refl) (λ 𝓤 𝓛 content run κs a. tt) walk.walk.Met.met
@@ -309,26 +327,26 @@ module _ {M : Type 1} where
     publish_publish = by 2 (to_read 0 tt (read w8) ∷ to_write 1 tt (number w8) ∷ []) (λ n. refl)
         (λ 𝓤 𝓛 content run κs a. tt) publish.publish.Met.met
         (λ n r e. both n.memory (λ answer dest. (answer, dest)));
-    publish_copy_end = by 0 (by_value plain-Published ∷ []) (λ n. refl)
+    publish_copy_end = by 0 (by_value plain-copied ∷ []) (λ n. refl)
         (λ 𝓤 𝓛 content run κs a. tt) publish.copy_end.Met.met (λ n r e. id⊢ n.memory _);
     writer_write = by 3
         (by_value (plain_number w8) ∷ by_value (plain_number w8) ∷ by_value (plain_number w8)
         ∷ to_read 0 tt (read w64) ∷ to_read 1 tt (read w8) ∷ to_write 2 tt (number w8) ∷ [])
         (λ n. refl) (λ 𝓤 𝓛 content run κs a. tt) writer.write.Met.met
         (λ n r e. both n.memory (λ answer dest. (answer, dest)));
-    writer_write_end = by 0 (by_value plain-Written ∷ []) (λ n. refl) (λ 𝓤 𝓛 content run κs a. tt)
+    writer_write_end = by 0 (by_value plain-written ∷ []) (λ n. refl) (λ 𝓤 𝓛 content run κs a. tt)
         writer.write_end.Met.met (λ n r e. id⊢ n.memory _);
     entries_spell = by 0 (by_value plain-Entry ∷ []) (λ n. refl) (λ 𝓤 𝓛 content run κs a. tt)
         entries.spell.Met.met (λ n r e. id⊢ n.memory _);
     inventory_inventory = by 2 (to_read 0 tt (read w8) ∷ to_write 1 tt (number w8) ∷ [])
         (λ n. refl) (λ 𝓤 𝓛 content run κs a. tt) inventory.inventory.Met.met
         (λ n r e. both n.memory (λ answer dest. (answer, dest)));
-    inventory_inventory_end = by 0 (by_value plain-Inventoried ∷ []) (λ n. refl)
+    inventory_inventory_end = by 0 (by_value plain-inventoried ∷ []) (λ n. refl)
         (λ 𝓤 𝓛 content run κs a. tt) inventory.inventory_end.Met.met (λ n r e. id⊢ n.memory _);
     lists_read_list = by 2 (to_read 0 tt (read w8) ∷ to_write 1 tt (number w64) ∷ []) (λ n. refl)
         (λ 𝓤 𝓛 content run κs a. tt) lists.read_list.Met.met
         (λ n r e. both n.memory (λ answer dest. (answer, dest)));
-    lists_list_end = by 0 (by_value plain-ListEnd ∷ []) (λ n. refl) (λ 𝓤 𝓛 content run κs a. tt)
+    lists_list_end = by 0 (by_value plain-list_end ∷ []) (λ n. refl) (λ 𝓤 𝓛 content run κs a. tt)
         lists.list_end.Met.met (λ n r e. id⊢ n.memory _);
     requests_request_at = by 1 (to_read 0 tt (read w8) ∷ by_value (plain_number w64) ∷ [])
         (λ n. refl) (λ 𝓤 𝓛 content run κs a. tt) requests.request_at.Met.met

@@ -1,5 +1,6 @@
 -- Demand 2, the public copy: when it refuses, in document 01's numbers, and when it is written; and what then stands in the destination.
 --
+use Rattle.std.specs.Prelude.{Ok, Err}
 use Prim.Native.Nat.{ℕ, ◌≤◌, ◌<◌}
 use native.Mathlib.Omega.{arith}
 use mathlib.Core.Path.{◌≡◌, refl, sym, ap, subst, ◌∙◌}
@@ -11,8 +12,6 @@ use Rattle.octets.specs.Words.{Not, Iff}
 use Rattle.index.specs.Numbers.{end_of, stored, unplaced}
 use Rattle.index.specs.declared.numbers.End.{End}
 use Rattle.index.specs.declared.numbers.StoreEnd.{StoreEnd}
-use Rattle.index.specs.declared.refusal.Outcome.{Outcome}
-use Rattle.index.specs.declared.refusal.Outcome.TheVariants as outcome
 use Rattle.index.specs.Bounds.{unlimited}
 use Rattle.index.specs.Walk.{walked}
 use Rattle.publish.specs.Values.{licensed}
@@ -31,9 +30,10 @@ use Rattle.promises.specs.CopyGiven.{
   CopyRefusedExactlyWhen,
   CopyWrittenExactlyWhen,
 }
+use Rattle.index.specs.Outcome.{Outcome}
 
 -- a file that walks clean is not too long
-clean_short : (file : List ℕ) → (walked unlimited file).outcome ≡ outcome.Clean → NotTooLong file
+clean_short : (file : List ℕ) → (walked unlimited file).outcome ≡ Ok tt → NotTooLong file
 unfolding end_of
 clean_short file clean = go ((walk_clean_exactly_when unlimited file).0 (ap end_of clean))
   where
@@ -72,21 +72,21 @@ module _ (file dest : List ℕ) where
   -- a walk's refusal is the copy's
   refused_alike : (x : Outcome) (n p o d : ℕ) → Not (n ≡ 0) → Iff (answers_to x ≡ refusing n p o d) (end_of x ≡ (refusing n p o d).end)
   unfolding by_outcome copy_end stored end_of
-  refused_alike outcome.Clean n p o d some = (
+  refused_alike (Ok tt) n p o d some = (
     (λ e. absurd (some (sym (ap (λ (s : StoreEnd). s.end.outcome) e)))),
     λ e. absurd (some (sym (ap (λ (s : End). s.outcome) e))),
   )
-  refused_alike (outcome.Refused why place offset) n p o d some = (
+  refused_alike (Err stop) n p o d some = (
     (λ e. ap (λ (s : StoreEnd). s.end) e),
     λ e. ap (λ (s : End). record { end = s; written = 0 }) e,
   )
 
   -- a clean end writes the file's length, and no other does
-  clean_alike : (x : Outcome) (octets : ℕ) → answers_to x ≡ stored octets → (x ≡ outcome.Clean) × (octets ≡ length file)
+  clean_alike : (x : Outcome) (octets : ℕ) → answers_to x ≡ stored octets → (x ≡ Ok tt) × (octets ≡ length file)
   unfolding by_outcome copy_end stored end_of
-  clean_alike outcome.Clean octets e = (refl, sym (ap (λ (s : StoreEnd). s.written) e))
-  clean_alike (outcome.Refused why place offset) octets e =
-      absurd (omega (arith, from_1 why, ap (λ (s : StoreEnd). s.end.outcome) e))
+  clean_alike (Ok tt) octets e = (refl, sym (ap (λ (s : StoreEnd). s.written) e))
+  clean_alike (Err stop) octets e =
+      absurd (omega (arith, from_1 stop.why, ap (λ (s : StoreEnd). s.end.outcome) e))
 
   -- the numbers of an end that is given
   abbrev Numbers : StoreEnd → Type 0
@@ -138,7 +138,7 @@ module _ (file dest : List ℕ) where
           ∙ ap stored (sym e)
 
   -- on a clean walk the public copy is what stands in front
-  pub copied : (walked unlimited file).outcome ≡ outcome.Clean → length file ≤ length dest
+  pub copied : (walked unlimited file).outcome ≡ Ok tt → length file ≤ length dest
       → take (length file) (copy_of licensed file dest).dest ≡ public_copy licensed file
   unfolding by_outcome
   copied clean fits =

@@ -1,4 +1,5 @@
 -- Demand 1: what a walk, a public copy and a write leave of the memory that they are lent.
+use Rattle.std.specs.Prelude.{Result, Ok, Err}
 use Prim.Native.Nat.{ℕ, ◌*◌, ◌/◌, ◌≤◌}
 use native.Mathlib.Omega.{arith}
 use mathlib.Core.Path.{◌≡◌, refl, sym, ◌∙◌}
@@ -11,8 +12,6 @@ use Rattle.framing.specs.declared.read.Section.{Section}
 use Rattle.framing.proofs.Tests.{by_test}
 use Rattle.index.specs.declared.line.Line.{Line}
 use Rattle.index.specs.Numbers.{stored}
-use Rattle.index.specs.declared.refusal.Outcome.{Outcome}
-use Rattle.index.specs.declared.refusal.Outcome.TheVariants as outcome
 use Rattle.index.specs.Bounds.{unlimited}
 use Rattle.index.specs.Walk.{walked}
 use Rattle.standing.specs.Tables.{room_of, rows_of, stored_over}
@@ -25,13 +24,14 @@ use Rattle.writer.specs.Plan.{parts_of, judged_plan}
 use Rattle.writer.specs.Message.{message_octets}
 use Rattle.writer.specs.Write.{dest_of, write_of}
 use Rattle.writer.specs.End.{write_end}
-use Rattle.writer.specs.declared.Written.{Written}
-use Rattle.writer.specs.declared.Written.TheVariants.{Whole, TooManySections, NotOneMessage, OutsideStore, PayloadSize, NoRoom}
 use Rattle.writer.proofs.Checks.{accepted, all_sound}
 use Rattle.writer.proofs.Lengths.{length_message}
 use Rattle.walk_laws.proofs.Counts.{within_room}
 use Rattle.blindness.proofs.Copies.{length_copy}
 use Rattle.promises.specs.Lent.{Leaves, Holds, WalkStores, NumbersStore, CopyLeaves, WriteLeaves}
+use Rattle.index.specs.Outcome.{Outcome}
+use Rattle.writer.specs.declared.WriteRefusal.TheVariants.{TooManySections, NotOneMessage, OutsideStore, PayloadSize, NoRoom}
+use Rattle.writer.specs.declared.WriteRefusal.{WriteRefusal}
 
 -- so where so many are put in front of the others
 pub in_front : {A : Type 0} (new before : List A) (n : ℕ) → length new ≡ n → n ≤ length before → Leaves n before (new ++ drop n before)
@@ -94,8 +94,8 @@ copy_leaves file dest =
     Kept c = Leaves (copy_end c.answer).written dest c.dest
 
     go : (o : Outcome) → length file ≤ length dest → Kept (by_outcome o licensed file dest)
-    go outcome.Clean fits = in_front (public_copy licensed file) dest (length file) (length_copy licensed file) fits
-    go (outcome.Refused why place offset) fits = (refl, refl)
+    go (Ok tt) fits = in_front (public_copy licensed file) dest (length file) (length_copy licensed file) fits
+    go (Err stop) fits = (refl, refl)
 
 -- so does a message
 pub write_leaves : WriteLeaves
@@ -105,14 +105,14 @@ write_leaves discipline reserved₁ reserved₂ plan store dest = go (judged_pla
     octets : List ℕ
     octets = message_octets discipline reserved₁ reserved₂ (parts_of plan) store
 
-    go : (w : Written) → judged_plan (parts_of plan) (length store) (length dest) ≡ w
+    go : (w : Result ℕ WriteRefusal) → judged_plan (parts_of plan) (length store) (length dest) ≡ w
         → Leaves (write_end w).written dest (dest_of w octets dest)
-    go (Whole total) e =
+    go (Ok total) e =
         let a = accepted (parts_of plan) (length store) (length dest) total e in
         let long = length_message discipline reserved₁ reserved₂ (parts_of plan) store (all_sound a) in
         in_front octets dest total (long ∙ sym a.whole) a.has_room
-    go TooManySections e = (refl, refl)
-    go (NotOneMessage at) e = (refl, refl)
-    go (OutsideStore at) e = (refl, refl)
-    go (PayloadSize at) e = (refl, refl)
-    go NoRoom e = (refl, refl)
+    go (Err TooManySections) e = (refl, refl)
+    go (Err (NotOneMessage at)) e = (refl, refl)
+    go (Err (OutsideStore at)) e = (refl, refl)
+    go (Err (PayloadSize at)) e = (refl, refl)
+    go (Err NoRoom) e = (refl, refl)

@@ -1,4 +1,5 @@
 -- Demand 1: what an inventory and the reader of a list leave of the memory that they are lent.
+use Rattle.std.specs.Prelude.{Option, Some, None, Ok, Err}
 use Prim.Native.Nat.{ℕ, ◌+◌, ◌*◌, ◌/◌, ◌≤◌}
 use native.Mathlib.Omega.{arith}
 use mathlib.Core.Path.{◌≡◌, refl}
@@ -10,12 +11,6 @@ use Rattle.framing.proofs.Tests.{by_test}
 use Rattle.index.specs.Bounds.{unlimited}
 use Rattle.index.specs.Numbers.{stored, unplaced}
 use Rattle.index.specs.Walk.{walked}
-use Rattle.index.specs.declared.refusal.Outcome.{Outcome}
-use Rattle.index.specs.declared.refusal.Outcome.TheVariants as outcome
-use Rattle.products.specs.declared.MaybeOctet.{MaybeOctet}
-use Rattle.products.specs.declared.MaybeOctet.TheVariants.{Octet, NoOctet}
-use Rattle.products.specs.declared.MaybeTime.{MaybeTime}
-use Rattle.products.specs.declared.MaybeTime.TheVariants.{Time, NoTime}
 use Rattle.entries.specs.Entries.{text_of}
 use Rattle.entries.specs.declared.Entry.{Entry}
 use Rattle.inventory.specs.Inventory.{TextWritten, text_into, inventory_by, entries_of, inventory_of}
@@ -24,6 +19,8 @@ use Rattle.lists.specs.Line.{LineSaid, says, says_nothing, entry_of}
 use Rattle.lists.specs.Lists.{ListTold, line_read, lines_read, text_lines, list_told, octet_numbers, time_numbers, entry_numbers, list_numbers, read_of}
 use Rattle.promises.specs.Lent.{Leaves, InventoryLeaves, ListStores}
 use Rattle.promises.proofs.Leaves.{in_front, held}
+use Rattle.products.specs.declared.ForecastTime.{ForecastTime}
+use Rattle.index.specs.Outcome.{Outcome}
 
 -- a text stands in front where it fits, and a refusal writes nothing
 pub inventory_leaves : InventoryLeaves
@@ -34,22 +31,22 @@ inventory_leaves file text = go (walked unlimited file).outcome
     Kept w = Leaves (inventory_end w.answer).written text w.text
 
     go : (o : Outcome) → Kept (inventory_by o (entries_of file) text)
-    go outcome.Clean =
+    go (Ok tt) =
         let written = text_of (entries_of file) in
         by_test Kept (ltb (length text) (length written)) (λ _. (refl, refl)) λ e.
         in_front written text (length written) refl (ltb-false (length text) (length written) e)
-    go (outcome.Refused why place offset) = (refl, refl)
+    go (Err stop) = (refl, refl)
 
 -- an entry is thirteen numbers
-two_numbers : (o : MaybeOctet) → length (octet_numbers o) ≡ 2
+two_numbers : (o : Option ℕ) → length (octet_numbers o) ≡ 2
 unfolding octet_numbers
-two_numbers (Octet n) = refl
-two_numbers NoOctet = refl
+two_numbers (Some n) = refl
+two_numbers None = refl
 
-three_numbers : (t : MaybeTime) → length (time_numbers t) ≡ 3
+three_numbers : (t : Option ForecastTime) → length (time_numbers t) ≡ 3
 unfolding time_numbers
-three_numbers (Time t) = refl
-three_numbers NoTime = refl
+three_numbers (Some t) = refl
+three_numbers None = refl
 
 thirteen : (e : Entry) → length (entry_numbers e) ≡ 13
 unfolding entry_numbers

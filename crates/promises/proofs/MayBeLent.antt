@@ -1,4 +1,7 @@
 -- What may be lent: octets, numbers and lines that fit (specs/Parameters.antt).
+use Rattle.std.specs.contracts.option.Option as options
+use Rattle.std.proofs.option.Option.TheLaws as OptionLaws
+use Rattle.std.specs.Prelude.{Option, Some, None}
 use native.Mathlib.Omega.{arith}
 use Prim.Native.Nat.{ℕ, ◌<◌, ◌^◌}
 use mathlib.Core.List.{List, [], ◌∷◌, ◌++◌}
@@ -13,10 +16,6 @@ use denote.Enum.Laws as enum
 use Rattle.order.specs.contracts.Place as PlaceRow
 use Rattle.order.proofs.Place.TheLaws as PlaceRowLaws
 use Rattle.order.specs.declared.Place.{Place}
-use Rattle.index.specs.contracts.line.LocalUsePlace as LocalRow
-use Rattle.index.proofs.line.LocalUsePlace.TheLaws as LocalRowLaws
-use Rattle.index.specs.contracts.line.MessageEnd as EndRow
-use Rattle.index.proofs.line.MessageEnd.TheLaws as EndRowLaws
 use Rattle.index.specs.contracts.line.Span as SpanRow
 use Rattle.index.proofs.line.Span.TheLaws as SpanRowLaws
 use Rattle.index.specs.contracts.line.Line as LineRow
@@ -25,12 +24,8 @@ use Rattle.framing.specs.contracts.read.Offset as OffsetRow
 use Rattle.framing.proofs.read.Offset.TheLaws as OffsetRowLaws
 use Rattle.framing.specs.declared.read.Offset.{Offset}
 use Rattle.index.specs.declared.line.Line.{Line}
-use Rattle.index.specs.declared.line.LocalUsePlace.{LocalUsePlace}
-use Rattle.index.specs.declared.line.LocalUsePlace.TheVariants.{At, Absent}
-use Rattle.index.specs.declared.line.MessageEnd.{MessageEnd}
-use Rattle.index.specs.declared.line.MessageEnd.TheVariants.{GoesOn, ClosedAt}
 use Rattle.index.specs.declared.line.Span.{Span}
-use Rattle.walk_numbers.specs.Numbers.{local_place, end_place, line_numbers, lines_of}
+use Rattle.walk_numbers.specs.Numbers.{place_or_0, line_numbers, lines_of}
 use Rattle.promises.specs.Parameters.{Representable, AllRepresentable, MayBeLent}
 
 numbers_fit : (w : Width) (ns : List ℕ) → AllFit w ns → AllRepresentable (UInt w) ns
@@ -40,15 +35,11 @@ numbers_fit w (n ∷ ns) fit = ((vint w n ∷ [], (refl, fit.0.fits)), numbers_f
 place_fits : (p : Place) → p.0 < 2 ^ 64 → Is PlaceRow.the_row p (struct.vals PlaceRow.the_type PlaceRowLaws.the_laws p)
 place_fits p fit = struct.owes PlaceRow.the_type PlaceRowLaws.the_laws p ((refl, fit), tt)
 
-local_fits : (d : LocalUsePlace) → local_place d < 2 ^ 64 → Is LocalRow.the_row d (enum.vals LocalRow.the_type LocalRowLaws.the_laws d)
-unfolding local_place
-local_fits (At p) fit = enum.owes LocalRow.the_type LocalRowLaws.the_laws (At p) (place_fits p fit, tt)
-local_fits Absent fit = enum.owes LocalRow.the_type LocalRowLaws.the_laws Absent tt
-
-end_fits : (e : MessageEnd) → end_place e < 2 ^ 64 → Is EndRow.the_row e (enum.vals EndRow.the_type EndRowLaws.the_laws e)
-unfolding end_place
-end_fits GoesOn fit = enum.owes EndRow.the_type EndRowLaws.the_laws GoesOn tt
-end_fits (ClosedAt p) fit = enum.owes EndRow.the_type EndRowLaws.the_laws (ClosedAt p) (place_fits p fit, tt)
+place_or_none_fits : (d : Option Place) → place_or_0 d < 2 ^ 64
+    → Is (options.the_row PlaceRow.the_row) d (enum.vals (options.the_type PlaceRow.the_row) (OptionLaws.the_laws PlaceRow.the_row PlaceRowLaws.the_row_laws PlaceRowLaws.the_told) d)
+unfolding place_or_0
+place_or_none_fits (Some p) fit = enum.owes (options.the_type PlaceRow.the_row) (OptionLaws.the_laws PlaceRow.the_row PlaceRowLaws.the_row_laws PlaceRowLaws.the_told) (Some p) (place_fits p fit, tt)
+place_or_none_fits None fit = enum.owes (options.the_type PlaceRow.the_row) (OptionLaws.the_laws PlaceRow.the_row PlaceRowLaws.the_row_laws PlaceRowLaws.the_told) None tt
 
 offset_fits : (o : Offset) → o.0 < 2 ^ 64 → Is OffsetRow.the_row o (struct.vals OffsetRow.the_type OffsetRowLaws.the_laws o)
 offset_fits o fit = struct.owes OffsetRow.the_type OffsetRowLaws.the_laws o ((refl, fit), tt)
@@ -71,7 +62,7 @@ line_fits l fit =
             (
               place_fits l.identification places.1.0.fits,
               (
-                local_fits l.local places.1.1.0.fits,
+                place_or_none_fits l.local places.1.1.0.fits,
                 (
                   place_fits l.grid places.1.1.1.0.fits,
                   (
@@ -83,7 +74,7 @@ line_fits l fit =
                         (
                           place_fits l.values later.1.1.1.0.fits,
                           (
-                            end_fits l.end later.1.1.1.1.0.fits,
+                            place_or_none_fits l.end later.1.1.1.1.0.fits,
                             (span_fits l.span later.1.1.1.1.1.0.fits later.1.1.1.1.1.1.0.fits, tt),
                           ),
                         ),

@@ -1,4 +1,5 @@
 -- The pull reader's calls, in numbers: each section listed is handed out by the call of its place, then the refusal, then nothing.
+use Rattle.std.specs.Prelude.{Ok, Err}
 use Prim.Native.Nat.{ℕ, zero, suc, ◌+◌, ◌≤◌, ◌<◌}
 use native.Mathlib.Omega.{arith}
 use native.Mathlib.Nat.{zero-add}
@@ -9,14 +10,13 @@ use Rattle.octets.specs.Words.{Not}
 use Rattle.framing.specs.declared.read.Section.{Section}
 use Rattle.index.specs.Lines.{unlisted}
 use Rattle.index.specs.Numbers.{end_of}
-use Rattle.index.specs.declared.refusal.Outcome.{Outcome}
-use Rattle.index.specs.declared.refusal.Outcome.TheVariants as outcome
 use Rattle.index.specs.Bounds.{unlimited}
 use Rattle.index.specs.Walk.{walked}
 use Rattle.pull.specs.Pull.{ends_with, hands_out, pulled}
 use Rattle.pull.proofs.Sequence.{sequence}
 use Rattle.walk_laws.proofs.WholeWalk.{from_1}
 use Rattle.promises.specs.Handed.{Handed, passed, refused, ended, handed, HandsOut, a_section_next, the_refusal, after_refusal, after_clean_end, PullHandsOut}
+use Rattle.index.specs.Outcome.{Outcome}
 
 abbrev section_at : List Section → ℕ → Section
 section_at sections call = get_or sections call unlisted.section
@@ -31,9 +31,9 @@ data Hands (sections : List Section) (how : Outcome) (at call : ℕ) : Handed �
 
 hands : (at : ℕ) (sections : List Section) (how : Outcome) (call : ℕ) → Hands sections how at call (handed (hands_out at sections how call))
 unfolding hands_out handed ends_with end_of
-hands at [] (outcome.Refused why place offset) zero = refusal refl (λ z. let some = from_1 why in omega arith)
-hands at [] (outcome.Refused why place offset) (suc call) = behind (omega arith)
-hands at [] outcome.Clean call = clean (omega arith) refl
+hands at [] (Err stop) zero = refusal refl (λ z. let some = from_1 stop.why in omega arith)
+hands at [] (Err stop) (suc call) = behind (omega arith)
+hands at [] (Ok tt) call = clean (omega arith) refl
 hands at (s ∷ more) how zero =
     subst (λ (p : ℕ). Hands (s ∷ more) how at 0 (passed p s.number s.offset.0 s.length)) (let e : at + 0 ≡ at = omega arith in e)
     (section (omega arith) refl)

@@ -104,7 +104,7 @@ stands_inventory : inventory.Stands world
 stands_inventory = (refl, stands_entries, stands_index, stands_order, stands_products, stands_reading, stands_sections)
 
 stands_lists : lists.Stands world
-stands_lists = refl
+stands_lists = (refl, stands_standing)
 
 stands_buttresk : buttresk.Stands world
 stands_buttresk = (refl, stands_inventory, stands_lists, stands_products, stands_publish, stands_sections, stands_walk_numbers, stands_writer)
@@ -156,6 +156,7 @@ code_is_there = (
     standing_span_after = has _ (standing.linked_span_after world stands_standing);
     standing_passed_row = has _ (standing.linked_passed_row world stands_standing);
     standing_put_row = has _ (standing.linked_put_row world stands_standing);
+    standing_put_numbers = has _ (standing.linked_put_numbers world stands_standing);
     walk_walk = has _ (walk.linked_walk world stands_walk);
     walk_numbers_walk_numbers = has _ (walk_numbers.linked_walk_numbers world stands_walk_numbers);
     pull_first = has _ (pull.linked_first world stands_pull);

@@ -1,5 +1,5 @@
 -- What a call of the pull reader hands out, in document 01's numbers ("Order", "Refusal numbers").
-use Rattle.std.specs.Prelude.{ℕ, ◌≤◌, ◌<◌, ◌≡◌, List, length, get_or}
+use Rattle.std.specs.Prelude.{ℕ, ◌≤◌, ◌<◌, ◌≡◌, List, length, get_or, Option, Some, None, Result, Ok, Err}
 use Rattle.octets.specs.Words.{Not}
 use Rattle.framing.specs.declared.read.Section.{Section}
 use Rattle.index.specs.Lines.{unlisted}
@@ -7,10 +7,10 @@ use Rattle.index.specs.Bounds.{unlimited}
 use Rattle.index.specs.Walk.{walked}
 use Rattle.index.specs.Numbers.{end_of}
 use Rattle.index.specs.declared.numbers.End.{End}
-use Rattle.index.specs.declared.refusal.Outcome.TheVariants as outcome
 use Rattle.pull.specs.Calls.{pull_at, after_calls}
-use Rattle.pull.specs.declared.Pulled.{Pulled}
-use Rattle.pull.specs.declared.Pulled.TheVariants as pulled
+use Rattle.index.specs.Outcome.{refused_there}
+use Rattle.index.specs.declared.listed.Listed.{Listed}
+use Rattle.index.specs.declared.refusal.Refused.{Refused}
 
 -- a passed section's place, number, offset and length; a refusal's outcome, place, offset and
 -- detail; or that it has ended
@@ -19,11 +19,11 @@ pub data Handed : Type 0 where
   refused : End → Handed
   ended : Handed
 
-unfoldable pub handed : Pulled → Handed
-handed (pulled.Passed s) =
+unfoldable pub handed : Option (Result Listed Refused) → Handed
+handed (Some (Ok s)) =
     passed s.place.0 s.section.number s.section.offset.0 s.section.length
-handed (pulled.Refused why place offset) = refused (end_of (outcome.Refused why place offset))
-handed pulled.Ended = ended
+handed (Some (Err stop)) = refused (end_of (Err stop))
+handed None = ended
 
 -- the calls on a file, counted from 0: each section of its unlimited walk, with its place; then its
 -- refusal, once; and nothing more

@@ -1,6 +1,6 @@
 -- The text inventory and its reader (02, Ticket 1): what stands in an inventory, when it is refused
 -- or written, and that it reads back. The walk's own refusals are in the crate `walk_laws`.
-use Rattle.std.specs.Prelude.{ℕ, ◌≤◌, ◌<◌, ◌≡◌, List, length}
+use Rattle.std.specs.Prelude.{ℕ, ◌≤◌, ◌<◌, ◌≡◌, List, length, Ok}
 use Rattle.octets.specs.Words.{Not, Iff}
 use Rattle.index.specs.Bounds.{unlimited}
 use Rattle.index.specs.Numbers.{stored}
@@ -12,7 +12,6 @@ use Rattle.inventory.specs.End.{inventory_end}
 use Rattle.inventory.specs.Laws as inventory
 use Rattle.lists.specs.Lists.{list_told}
 use Rattle.lists.specs.Laws as lists
-use Rattle.lists.specs.declared.ListEnd.TheVariants.{AllRead}
 use Rattle.walk_laws.specs.ExactlyWhen.{Given, EndsClean}
 use Rattle.promises.specs.CopyGiven.{refusing}
 
@@ -47,7 +46,7 @@ abbrev pub InventoryReadsBack : Type 0
 InventoryReadsBack =
     (file : List ℕ) → Every (λ octet. octet ≤ 255) file
     → (room : ℕ) → length (entries_of file) ≤ room
-    → list_told room (inventory_text file) ≡ record { entries = entries_of file; end = AllRead }
+    → list_told room (inventory_text file) ≡ record { entries = entries_of file; end = Ok tt }
 
 -- all that is promised of both
 pub record TextInventory : Type 0 where

@@ -3,8 +3,10 @@
 -- parameters' contents to the answer and the content of each slice that it is lent to write
 -- (`Parameters` and `Contract` say all that this promises). Not here are the functions that only
 -- print (docs/CONTRACTS.md lists them): they answer nothing and are lent nothing to write.
-use Rattle.std.specs.Prelude.{ℕ, List, [], ◌∷◌}
-use Rattle.std.specs.Borrow.{Array, u8, u16, u32, u64, usize}
+use Rattle.std.specs.Prelude.{ℕ, List, [], ◌∷◌, Option, Result}
+use Rattle.std.specs.Borrow.{Array, u8, u16, u32, u64, usize, unit}
+use Rattle.std.specs.contracts.option.Option as options
+use Rattle.std.specs.contracts.result.Result as results
 use prog.Routine.{Env}
 use prog.Wired.{Wired}
 use Rattle.octets.specs.contracts as octets
@@ -61,18 +63,17 @@ use Rattle.framing.specs.contracts.read.Section as Section
 use Rattle.order.specs.contracts.Order as Order
 use Rattle.order.specs.contracts.Place as Place
 use Rattle.index.specs.contracts.line.Force as Force
-use Rattle.index.specs.contracts.line.MessageEnd as MessageEnd
 use Rattle.index.specs.contracts.line.Span as Span
 use Rattle.index.specs.contracts.line.Line as Line
-use Rattle.index.specs.contracts.refusal.Outcome as Outcome
+use Rattle.index.specs.contracts.refusal.Refused as refused_type
 use Rattle.reading.specs.contracts.Reading as Reading
 use Rattle.standing.specs.contracts.Standing as Standing
 use Rattle.pull.specs.contracts.Progress as Progress
-use Rattle.publish.specs.contracts.Published as Published
-use Rattle.writer.specs.contracts.Written as Written
+use Rattle.publish.specs.contracts.CopyRefusal as CopyRefusal
+use Rattle.writer.specs.contracts.WriteRefusal as WriteRefusal
 use Rattle.entries.specs.contracts.Entry as Entry
-use Rattle.inventory.specs.contracts.Inventoried as Inventoried
-use Rattle.lists.specs.contracts.ListEnd as ListEnd
+use Rattle.inventory.specs.contracts.InventoryRefusal as InventoryRefusal
+use Rattle.lists.specs.contracts.ListRefusal as ListRefusal
 use Rattle.octets.specs.BigEndian.{be_at}
 use Rattle.octets.specs.Signed.{signed_of}
 use Rattle.sections.specs.Kinds.{least_payload_of, values_of}
@@ -91,13 +92,12 @@ use Rattle.order.specs.Order.{judged, judged_read, completes, is_between, order_
 use Rattle.index.specs.Lines.{opened, in_force, with_span, with_submessage, line_of, unlisted}
 use Rattle.index.specs.Numbers.{end_of, stored, unplaced}
 use Rattle.reading.specs.Reading.{start, seen}
-use Rattle.standing.specs.Put.{row_put}
+use Rattle.standing.specs.Put.{row_put, numbers_put}
 use Rattle.standing.specs.Standing.{one_more, span_after, passed_row}
 use Rattle.walk.specs.Tables.{walk_of}
 use Rattle.walk_numbers.specs.Numbers.{walk_numbers}
 use Rattle.pull.specs.Calls.{first_of, pull_at}
 use Rattle.pull.specs.declared.Progress.{Progress}
-use Rattle.pull.specs.declared.Pulled.{Pulled}
 use Rattle.publish.specs.Values.{licensed}
 use Rattle.publish.specs.Copy.{copy_of}
 use Rattle.publish.specs.End.{copy_end}
@@ -128,6 +128,8 @@ use Rattle.promises.specs.Parameters.{
   MayPassAll,
   Gives,
 }
+use Rattle.index.specs.declared.listed.Listed.{Listed}
+use Rattle.index.specs.declared.refusal.Refused.{Refused}
 
 -- in memory of one kind
 pub record PublicFunctions (M : Type 1) : Type 2 where
@@ -221,12 +223,12 @@ pub record PublicFunctions (M : Type 1) : Type 2 where
   pub index_with_submessage : Gives M 0 (value Force.the_row ∷ value u64 ∷ [])
       (λ _. index.with_submessage.clauses) index_code.with_submessage.Symbol.code
       index.with_submessage.Key.name (λ (force, (submessage, _)). with_submessage force submessage)
-  pub index_line_of : Gives M 0 (value Force.the_row ∷ value MessageEnd.the_row ∷ [])
+  pub index_line_of : Gives M 0 (value Force.the_row ∷ value (options.the_row Place.the_row) ∷ [])
       (λ _. index.line_of.clauses) index_code.line_of.Symbol.code index.line_of.Key.name
       (λ (force, (end, _)). line_of force end)
   pub index_unlisted : Gives M 0 [] (λ _. index.unlisted.clauses) index_code.unlisted.Symbol.code
       index.unlisted.Key.name (λ _. unlisted)
-  pub index_end_of : Gives M 0 (value Outcome.the_row ∷ []) (λ _. index.end_of.clauses)
+  pub index_end_of : Gives M 0 (value (results.the_row unit refused_type.the_row) ∷ []) (λ _. index.end_of.clauses)
       index_code.end_of.Symbol.code index.end_of.Key.name (λ (outcome, _). end_of outcome)
   pub index_stored : Gives M 0 (value u64 ∷ []) (λ _. index.stored.clauses)
       index_code.stored.Symbol.code index.stored.Key.name (λ (octets, _). stored octets)
@@ -258,6 +260,10 @@ pub record PublicFunctions (M : Type 1) : Type 2 where
   pub standing_put_row : Gives M 1 (lent_mut 0 tt u64 ∷ value u64 ∷ value Section.the_row ∷ [])
       (λ _. standing.put_row.clauses) standing_code.put_row.Symbol.code standing.put_row.Key.name
       (λ (rows, (place, (section, _))). (tt, row_put place section rows))
+  pub standing_put_numbers : Gives M 2 (lent_mut 0 tt u64 ∷ value usize ∷ lent 1 tt u64 ∷ [])
+      (λ _. standing.put_numbers.clauses) standing_code.put_numbers.Symbol.code
+      standing.put_numbers.Key.name
+      (λ (table, (at, (numbers, _))). (tt, numbers_put at numbers table))
   -- walk: the answer and the whole of both tables
   pub walk_walk : Gives M 3 (lent 0 tt u8 ∷ lent_mut 1 tt u64 ∷ lent_mut 2 tt Line.the_row ∷ [])
       (λ _. walk.walk.clauses) walk_code.walk.Symbol.code walk.walk.Key.name
@@ -284,7 +290,7 @@ pub record PublicFunctions (M : Type 1) : Type 2 where
   pub pull_new_holds : SeenIs M pull.new.ended (λ _. pull.new.clauses)
       (λ κs (file, _). file) (λ κs reader _. reader.file) (λ file. file)
   pub pull-Reader_next : Promised M pull.Reader.next.ended (λ _. pull.Reader.next.clauses)
-      pull_code.Reader.next.Symbol.code pull.Reader.next.Key.name {O = Pulled × List ℕ × Progress}
+      pull_code.Reader.next.Symbol.code pull.Reader.next.Key.name {O = (Option (Result Listed Refused)) × List ℕ × Progress}
       (λ κs (reader, _). (reader.now.file.now, reader.now.progress))
       (λ (file, progress). MayPassAll {n = 1} (lent 0 tt u8 ∷ value Progress.the_row ∷ [])
       (file, (progress, tt)))
@@ -297,7 +303,7 @@ pub record PublicFunctions (M : Type 1) : Type 2 where
       (λ _. publish.publish.clauses) publish_code.publish.Symbol.code publish.publish.Key.name
       (λ (file, (dest, _)). let copied = copy_of licensed file dest in
       (copied.answer, copied.dest))
-  pub publish_copy_end : Gives M 0 (value Published.the_row ∷ []) (λ _. publish.copy_end.clauses)
+  pub publish_copy_end : Gives M 0 (value (results.the_row usize CopyRefusal.the_row) ∷ []) (λ _. publish.copy_end.clauses)
       publish_code.copy_end.Symbol.code publish.copy_end.Key.name (λ (answer, _). copy_end answer)
   -- writer: the answer and the whole destination
   pub writer_write : Gives M 3 (value u8 ∷ value u8 ∷ value u8 ∷
@@ -306,7 +312,7 @@ pub record PublicFunctions (M : Type 1) : Type 2 where
       (λ (discipline, (reserved₁, (reserved₂, (plan, (store, (dest, _)))))).
       let wrote = write_of discipline reserved₁ reserved₂ plan store dest in
       (wrote.answer, wrote.dest))
-  pub writer_write_end : Gives M 0 (value Written.the_row ∷ []) (λ _. writer.write_end.clauses)
+  pub writer_write_end : Gives M 0 (value (results.the_row u64 WriteRefusal.the_row) ∷ []) (λ _. writer.write_end.clauses)
       writer_code.write_end.Symbol.code writer.write_end.Key.name (λ (answer, _). write_end answer)
   -- entries, inventory, lists: an entry's line; the answer and the whole buffer; the answer and the
   -- whole table
@@ -316,14 +322,14 @@ pub record PublicFunctions (M : Type 1) : Type 2 where
       (λ _. inventory.inventory.clauses) inventory_code.inventory.Symbol.code
       inventory.inventory.Key.name
       (λ (file, (text, _)). let wrote = inventory_of file text in (wrote.answer, wrote.text))
-  pub inventory_inventory_end : Gives M 0 (value Inventoried.the_row ∷ [])
+  pub inventory_inventory_end : Gives M 0 (value (results.the_row usize InventoryRefusal.the_row) ∷ [])
       (λ _. inventory.inventory_end.clauses) inventory_code.inventory_end.Symbol.code
       inventory.inventory_end.Key.name (λ (answer, _). inventory_end answer)
   pub lists_read_list : Gives M 2 (lent 0 tt u8 ∷ lent_mut 1 tt u64 ∷ [])
       (λ _. lists.read_list.clauses) lists_code.read_list.Symbol.code lists.read_list.Key.name
       (λ (text, (table, _)). let stored = read_of text table in
       (stored.answer, stored.table))
-  pub lists_list_end : Gives M 0 (value ListEnd.the_row ∷ []) (λ _. lists.list_end.clauses)
+  pub lists_list_end : Gives M 0 (value (results.the_row unit ListRefusal.the_row) ∷ []) (λ _. lists.list_end.clauses)
       lists_code.list_end.Symbol.code lists.list_end.Key.name (λ (end, _). list_end end)
   -- requests: the request at a place of an input
   pub requests_request_at : Gives M 1 (lent 0 tt u8 ∷ value usize ∷ [])
@@ -430,6 +436,7 @@ pub record HasTheCode (γ : Env) : Type 0 where
   pub standing_span_after : Wired γ standing_code.span_after.Symbol.code
   pub standing_passed_row : Wired γ standing_code.passed_row.Symbol.code
   pub standing_put_row : Wired γ standing_code.put_row.Symbol.code
+  pub standing_put_numbers : Wired γ standing_code.put_numbers.Symbol.code
   pub walk_walk : Wired γ walk_code.walk.Symbol.code
   pub walk_numbers_walk_numbers : Wired γ walk_numbers_code.walk_numbers.Symbol.code
   pub pull_first : Wired γ pull_code.first.Symbol.code

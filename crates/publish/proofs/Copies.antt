@@ -1,5 +1,6 @@
 -- The copy that the turns of the loop make, while the walk goes to a clean end: up to the cursor it is written, and which octets stay
 -- from there on is told by what is left of the message in hand and by the sections to come.
+use Rattle.std.specs.Prelude.{Option, Some, None, Ok}
 use mathlib.Core.Path.{◌≡◌, refl, sym, ap, subst, ◌∙◌}
 use mathlib.Core.Bool.{Bool, true, false}
 use mathlib.Core.List.{List, [], ◌∷◌, ◌++◌}
@@ -12,8 +13,6 @@ use Rattle.octets.specs.Words.{pick}
 use Rattle.framing.specs.declared.read.Section.{Section}
 use Rattle.framing.specs.declared.read.Cursor.{Cursor}
 use Rattle.framing.proofs.OneRead.{goes}
-use Rattle.index.specs.declared.refusal.Outcome.{Outcome}
-use Rattle.index.specs.declared.refusal.Outcome.TheVariants.{Clean}
 use Rattle.framing.specs.Read as read
 use Rattle.framing.proofs.OneRead.{Reads, reads_as, over_between, over_within}
 use Rattle.index.specs.Bounds.{most_octets, unlimited}
@@ -28,12 +27,11 @@ use Rattle.publish.specs.Copy.{stays, blanked_from, public_copy}
 use Rattle.publish.specs.Runs.{WroteRun, zeros, copied_octet, WroteSection, ToWrite}
 use Rattle.publish.proofs.Runs.{wrote_none, wrote_as, wrote_both, wrote_list}
 use Rattle.publish.specs.Passed.{passed_by}
-use Rattle.publish.specs.declared.Passed.{Passed}
-use Rattle.publish.specs.declared.Passed.TheVariants as passed
 use Rattle.reading.proofs.Untabled as steps
 use Rattle.reading.proofs.Untabled.{told_on, Passes, first_told, first_bounded}
 use Rattle.publish.proofs.Messages.{from_told, left, left_first, left_over, left_behind, left_here}
 use Rattle.publish.proofs.Turns.{unclean, OnWay, sees, whole}
+use Rattle.index.specs.Outcome.{Outcome}
 
 -- the octets of a copy
 module _ (keep : ℕ → Bool) where
@@ -62,7 +60,7 @@ copied file k = pick (stayed file k) (get_or file k 0) 0
 
 -- in a turn: the copy stands up to the cursor, and it is known what stays from there on
 pub record Copying (file d₀ : List ℕ) (at : Reading) (done : ℕ) (d : List ℕ) : Type 0 where
-  pub way : OnWay Clean file at
+  pub way : OnWay (Ok tt) file at
   pub here : at.cursor.at.0 ≡ done
   pub inside : done ≤ length file
   pub written : WroteRun (copied file) 0 done d₀ d
@@ -70,13 +68,13 @@ pub record Copying (file d₀ : List ℕ) (at : Reading) (done : ℕ) (d : List 
       → stayed file k ≡ left file at.cursor.at.0 at.cursor.rest (told_on file way.r at.cursor).sections k
 
 -- what is seen passes a section, or ends the walk with nothing left
-abbrev By : List ℕ → Reached → Cursor → Passed → Type 0
-By file r cursor (passed.Section s next) = Passes file r cursor s next
-By file r cursor passed.Ended = Unit
+abbrev By : List ℕ → Reached → Cursor → Option (Section × Reading) → Type 0
+By file r cursor (Some (s, next)) = Passes file r cursor s next
+By file r cursor None = Unit
 
-abbrev Left : List ℕ → Reached → Cursor → Passed → Type 0
-Left file r cursor (passed.Section s next) = Unit
-Left file r cursor passed.Ended = ((told_on file r cursor).sections ≡ []) × ((cursor.rest ≡ 0) ⊎ (length file ≤ cursor.at.0))
+abbrev Left : List ℕ → Reached → Cursor → Option (Section × Reading) → Type 0
+Left file r cursor (Some (s, next)) = Unit
+Left file r cursor None = ((told_on file r cursor).sections ≡ []) × ((cursor.rest ≡ 0) ⊎ (length file ≤ cursor.at.0))
 
 over_left : {file : List ℕ} {at rest : ℕ} → Reads file at rest read.Over → (rest ≡ 0) ⊎ (length file ≤ at)
 over_left (over_between none nowhere) = inl none
@@ -93,7 +91,7 @@ module _ (file : List ℕ) (fits : length file ≤ most_octets) {all : Outcome} 
   by_seen_lem seen.InputOver e = tt
   by_seen_lem (seen.Unreadable fault offset) e = tt
 
-  left_seen : (v : Seen) → seen file at ≡ v → (told_on file way.r at.cursor).outcome ≡ Clean → Left file way.r at.cursor (passed_by v)
+  left_seen : (v : Seen) → seen file at ≡ v → (told_on file way.r at.cursor).outcome ≡ Ok tt → Left file way.r at.cursor (passed_by v)
   unfolding passed_by
   left_seen (seen.Passes s next) e clean = tt
   left_seen (seen.Closes s next) e clean = tt
@@ -108,15 +106,15 @@ module _ (file : List ℕ) (fits : length file ≤ most_octets) {all : Outcome} 
   left_seen (seen.Unreadable fault offset) e clean =
       absurd (unclean (steps.unreadable file fits way.r at.cursor way.bounded (sees way e)).outcome clean)
 
-  pub passing : {s : Section} {next : Reading} → passed_by (seen file at) ≡ passed.Section s next → Passes file way.r at.cursor s next
+  pub passing : {s : Section} {next : Reading} → passed_by (seen file at) ≡ Some (s, next) → Passes file way.r at.cursor s next
   passing f = subst (By file way.r at.cursor) f (by_seen_lem (seen file at) refl)
 
-  pub nothing_left : passed_by (seen file at) ≡ passed.Ended → (told_on file way.r at.cursor).outcome ≡ Clean
+  pub nothing_left : passed_by (seen file at) ≡ None → (told_on file way.r at.cursor).outcome ≡ Ok tt
       → ((told_on file way.r at.cursor).sections ≡ []) × ((at.cursor.rest ≡ 0) ⊎ (length file ≤ at.cursor.at.0))
   nothing_left f clean = subst (Left file way.r at.cursor) f (left_seen (seen file at) refl clean)
 
 module _ (file d₀ : List ℕ) (fits : length file ≤ most_octets) where
-  pub copying_first : (walked unlimited file).outcome ≡ Clean → Copying file d₀ start 0 d₀
+  pub copying_first : (walked unlimited file).outcome ≡ Ok tt → Copying file d₀ start 0 d₀
   unfolding stayed
   copying_first clean =
       record {
@@ -176,7 +174,7 @@ module _ (file d₀ : List ℕ) (fits : length file ≤ most_octets) where
 
   -- behind the last section there are zeros, and then the copy stands
   pub copying_last : {at : Reading} {done : ℕ} {d d' : List ℕ} (before : Copying file d₀ at done d)
-      → passed_by (seen file at) ≡ passed.Ended → length file ≤ length d₀
+      → passed_by (seen file at) ≡ None → length file ≤ length d₀
       → WroteRun zeros done (length file) d d' → d' ≡ public_copy licensed file ++ drop (length file) d₀
   unfolding public_copy copied stayed
   copying_last {at} {done} {d' = d'} before ended room wrote =

@@ -1,4 +1,5 @@
 -- On the way: from what is reached, the walk ends as the whole does.
+use Rattle.std.specs.Prelude.{Ok, Err}
 use mathlib.Core.Path.{◌≡◌, refl, sym, ap, subst, ◌∙◌}
 use mathlib.Core.Bool.{true}
 use mathlib.Core.List.{List}
@@ -20,8 +21,6 @@ use Rattle.framing.specs.declared.read.Offset.{Offset}
 use Rattle.index.specs.Lines.{place, unlisted}
 use Rattle.index.specs.declared.listed.Listed.{Listed}
 use Rattle.index.specs.declared.refusal.Refusal.{Refusal}
-use Rattle.index.specs.declared.refusal.Outcome.{Outcome}
-use Rattle.index.specs.declared.refusal.Outcome.TheVariants.{Clean, Refused}
 use Rattle.index.specs.Bounds.{most_octets, unlimited}
 use Rattle.index.specs.Walk.{Reached, at_start, Told, concluded, walked_from, walked}
 use Rattle.reading.specs.Reading.{reading, start, seen}
@@ -30,9 +29,10 @@ use Rattle.reading.specs.declared.Seen.{Seen}
 use Rattle.reading.proofs.Told.{told_from}
 use Rattle.publish.proofs.Runs.{split}
 use Rattle.reading.proofs.Untabled.{told_on, Bounded, Passes, first_told, first_bounded}
+use Rattle.index.specs.Outcome.{Outcome, refused_there}
 
 -- a refusal is no clean end
-pub unclean : {o : Outcome} {why : Refusal} {at : Place} {offset : Offset} → o ≡ Refused why at offset → o ≡ Clean → ⊥
+pub unclean : {o : Outcome} {why : Refusal} {at : Place} {offset : Offset} → o ≡ Err (refused_there why at offset) → o ≡ Ok tt → ⊥
 unclean e f = let z : ◌≡◌ {A = ℕ} 0 1 = cc in omega arith
 
 pub record OnWay (whole : Outcome) (file : List ℕ) (at : Reading) : Type 0 where
@@ -82,12 +82,12 @@ module _ (file : List ℕ) (fits : length file ≤ most_octets) where
       }
 
   -- past the end of file the walk ends, and clean only between messages
-  past_end : (r : Reached) (cursor : Cursor) → length file < cursor.at.0 → (told_on file r cursor).outcome ≡ Clean
+  past_end : (r : Reached) (cursor : Cursor) → length file < cursor.at.0 → (told_on file r cursor).outcome ≡ Ok tt
       → is_between r.order ≡ true
   unfolding told_from walked_from concluded
   past_end r cursor past clean =
       by_read (read_at file at rest) (reads file at rest)
-      (subst (λ (l : Listing). (walked_from unlimited r l.sections l.ending).outcome ≡ Clean) (listing_next file at rest) clean)
+      (subst (λ (l : Listing). (walked_from unlimited r l.sections l.ending).outcome ≡ Ok tt) (listing_next file at rest) clean)
     where
       at : ℕ
       at = cursor.at.0
@@ -96,17 +96,17 @@ module _ (file : List ℕ) (fits : length file ≤ most_octets) where
       rest = cursor.rest
 
       by_read : (found : Read) → Reads file at rest found
-          → (walked_from unlimited r (listed_by found (listing_on file)).sections (listed_by found (listing_on file)).ending).outcome ≡ Clean
+          → (walked_from unlimited r (listed_by found (listing_on file)).sections (listed_by found (listing_on file)).ending).outcome ≡ Ok tt
           → is_between r.order ≡ true
       by_read (read.Section s next) is e = absurd (omega (arith, (goes is).forward, (goes is).inside))
       by_read read.Over is e =
-          by_test (λ (o : Outcome). o ≡ Clean → is_between r.order ≡ true) (is_between r.order) (λ between f. between)
+          by_test (λ (o : Outcome). o ≡ Ok tt → is_between r.order ≡ true) (is_between r.order) (λ between f. between)
           (λ inside f. absurd (unclean refl f)) e
       by_read (read.Refused fault offset) is e = absurd (unclean refl e)
 
   -- so on the way to a clean end a section that is passed lies whole in the file
   pub whole : {r : Reached} {cursor : Cursor} {s : Section} {next : Reading} → Passes file r cursor s next
-      → (told_on file r cursor).outcome ≡ Clean → next.cursor.at.0 ≤ length file
+      → (told_on file r cursor).outcome ≡ Ok tt → next.cursor.at.0 ≤ length file
   whole {next = next} p clean =
       split (length file) next.cursor.at.0
       (λ past.

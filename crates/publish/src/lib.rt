@@ -4,7 +4,9 @@
 #![tactic(auto)]
 
 ghost use Rattle.std.specs.Prelude.{◌≡◌, ◌++◌, true, false, ℕ, ◌≤◌, ◌<◌, leb, length, drop};
+ghost use Rattle.std.specs.Prelude.{Ok, Err};
 ghost use Rattle.index.specs.Bounds.{most_octets, unlimited};
+ghost use Rattle.index.specs.Outcome.{refused_there};
 ghost use Rattle.index.specs.Walk.{at_start, walked};
 ghost use Rattle.publish.specs.Values.{licensed, in_stretch};
 ghost use Rattle.publish.specs.Copy.{public_copy, copy_of};
@@ -12,33 +14,36 @@ ghost use Rattle.publish.specs.End.{copy_end};
 ghost use Rattle.publish.specs.Runs.{WroteRun, zeros, file_octet, ToWrite, WroteSection};
 ghost use Rattle.publish.specs.Passed.{passed_by};
 ghost use Rattle.reading.specs.Reading.{seen};
-ghost use Rattle.index.specs.declared.refusal.Outcome.TheVariants.{Clean, Refused};
 
 use framing::{Offset, Section};
-use index::{Listed, MOST_OCTETS, Outcome, Refusal, StoreEnd, end_of, stored, unlisted, unplaced};
+use index::{
+    Listed, MOST_OCTETS, Outcome, Refusal, Refused, StoreEnd, end_of, stored, unlisted, unplaced,
+};
 use order::Place;
 use reading::{Reading, Seen, look, start};
-use sections::{Values, values_of};
+use sections::values_of;
 
-// What a call answers.
+// Why there is no copy.
 #[derive(Clone, Copy)]
-pub enum Published {
-    // The copy stands in the destination's first octets, as many as the file has.
-    Whole(usize),
+pub enum CopyRefusal {
     // 1: the file is over 2^40 octets.
     FileTooLong,
     // 19: the destination is shorter than the file.
     DestinationTooShort,
     // The walk's own refusal, with its place and offset.
-    Refused(Refusal, Place, Offset),
+    Walk(Refused),
 }
 
 // The section just read is refused.
 fn refused(why: Refusal, place: u64, section: Section) -> Outcome
-    ensures { result ≡ Refused why (record { 0 = place }) section.offset }
+    ensures { result ≡ Err (refused_there why (record { 0 = place }) section.offset) }
 {
     let offset = section.offset;
-    Outcome::Refused(why, Place(place), offset)
+    Err(Refused {
+        why,
+        place: Place(place),
+        offset,
+    })
 }
 
 // How the walk of a file ends, with no table.
@@ -78,17 +83,17 @@ fn outcome_of(file: &[u8]) -> Outcome
                 place,
                 section,
             ),
-            Seen::Clean => return Outcome::Clean,
+            Seen::Clean => return Ok(()),
             Seen::InputOver => {
                 let at = last.place;
                 let section = last.section;
                 return refused(Refusal::InputOver, at.0, section);
             }
-            Seen::Unreadable(fault, offset) => return Outcome::Refused(
-                Refusal::Unreadable(fault),
-                Place(place),
+            Seen::Unreadable(fault, offset) => return Err(Refused {
+                why: Refusal::Unreadable(fault),
+                place: Place(place),
                 offset,
-            ),
+            }),
         }
     }
 }
@@ -98,10 +103,8 @@ fn blank(dest: &mut [u8], from: usize, to: usize)
     requires { (from ≤ to) × (to ≤ length dest.old) }
     ensures { WroteRun zeros from to dest.old dest.new }
 {
-    let mut i = from;
-    while i < to {
+    for i in from..to {
         dest[i] = 0;
-        i += 1;
     }
 }
 
@@ -111,10 +114,8 @@ fn keep(file: &[u8], dest: &mut [u8], from: usize, to: usize)
     ensures { WroteRun (file_octet file.now) from to dest.old
         dest.new }
 {
-    let mut i = from;
-    while i < to {
+    for i in from..to {
         dest[i] = file[i];
-        i += 1;
     }
 }
 
@@ -126,13 +127,13 @@ fn first_value(number: u64, octets: usize) -> usize
 {
     let values = values_of(number);
     match values {
-        Values::FromOctet(first) => {
+        Some(first) => {
             if first <= octets {
                 return first - 1;
             }
             octets
         }
-        Values::Nowhere => octets,
+        None => octets,
     }
 }
 
@@ -151,31 +152,26 @@ fn put_section(file: &[u8], dest: &mut [u8], done: usize, s: Section)
     blank(dest, values, from + octets);
 }
 
-// A section that is passed, and where to read on.
-#[derive(Clone, Copy)]
-enum Passed {
-    Section(Section, Reading),
-    Ended,
-}
-
-fn passed_at(file: &[u8], reading: Reading) -> Passed
+// The section that is passed next, and where to read on.
+#[tactic(auto, unfolding(crate::specs::Passed::passed_by))]
+fn passed_at(file: &[u8], reading: Reading) -> Option<(Section, Reading)>
     ensures { result ≡ passed_by (seen file.now reading) }
 {
     let seen = look(file, reading);
     match seen {
-        Seen::Passes(section, next) => Passed::Section(section, next),
-        Seen::Closes(section, next) => Passed::Section(section, next),
-        Seen::Misplaced(_) => Passed::Ended,
-        Seen::NoGrid(_) => Passed::Ended,
-        Seen::Clean => Passed::Ended,
-        Seen::InputOver => Passed::Ended,
-        Seen::Unreadable(_, _) => Passed::Ended,
+        Seen::Passes(section, next) => Some((section, next)),
+        Seen::Closes(section, next) => Some((section, next)),
+        Seen::Misplaced(_) => None,
+        Seen::NoGrid(_) => None,
+        Seen::Clean => None,
+        Seen::InputOver => None,
+        Seen::Unreadable(_, _) => None,
     }
 }
 
 // Writes the public copy of a file that walks clean.
 fn put_copy(file: &[u8], dest: &mut [u8])
-    requires { (length file.now ≤ most_octets) × ((walked unlimited file.now).outcome ≡ Clean)
+    requires { (length file.now ≤ most_octets) × ((walked unlimited file.now).outcome ≡ Ok tt)
         × (length file.now ≤ length dest.old) }
     ensures { dest.new
         ≡ public_copy licensed file.now
@@ -186,14 +182,14 @@ fn put_copy(file: &[u8], dest: &mut [u8])
     loop {
         let passed = passed_at(file, reading);
         match passed {
-            Passed::Section(section, next) => {
+            Some((section, next)) => {
                 put_section(file, dest, done, section);
                 let cursor = next.cursor;
                 let at = cursor.at;
                 done = at.0 as usize;
                 reading = next;
             }
-            Passed::Ended => {
+            None => {
                 blank(dest, done, file.len());
                 return;
             }
@@ -202,38 +198,40 @@ fn put_copy(file: &[u8], dest: &mut [u8])
 }
 
 // The public copy: refusal 1, then 19, then the walk's own, with the destination untouched; else
-// the copy, with the rest of the destination untouched.
-pub fn publish(file: &[u8], dest: &mut [u8]) -> Published
+// the copy in the destination's first octets, as many as the file has, which is the answer, with
+// the rest of the destination untouched.
+pub fn publish(file: &[u8], dest: &mut [u8]) -> Result<usize, CopyRefusal>
     ensures answer { result ≡ (copy_of licensed file.now dest.old).answer }
     ensures dest { dest.new
         ≡ (copy_of licensed file.now dest.old).dest }
 {
     if MOST_OCTETS < file.len() as u64 {
-        return Published::FileTooLong;
+        return Err(CopyRefusal::FileTooLong);
     }
     if dest.len() < file.len() {
-        return Published::DestinationTooShort;
+        return Err(CopyRefusal::DestinationTooShort);
     }
     let outcome = outcome_of(file);
     match outcome {
-        Outcome::Refused(why, place, offset) => Published::Refused(why, place, offset),
-        Outcome::Clean => {
+        Err(stop) => Err(CopyRefusal::Walk(stop)),
+        Ok(()) => {
             put_copy(file, dest);
-            Published::Whole(file.len())
+            Ok(file.len())
         }
     }
 }
 
 // An answer in document 01's numbers, and the octets written.
-pub fn copy_end(answer: Published) -> StoreEnd
+#[tactic(auto, unfolding(crate::specs::End::copy_end))]
+pub fn copy_end(answer: Result<usize, CopyRefusal>) -> StoreEnd
     ensures { result ≡ copy_end answer }
 {
     match answer {
-        Published::Whole(octets) => stored(octets as u64),
-        Published::FileTooLong => unplaced(1, 0),
-        Published::DestinationTooShort => unplaced(19, 0),
-        Published::Refused(why, place, offset) => StoreEnd {
-            end: end_of(Outcome::Refused(why, place, offset)),
+        Ok(octets) => stored(octets as u64),
+        Err(CopyRefusal::FileTooLong) => unplaced(1, 0),
+        Err(CopyRefusal::DestinationTooShort) => unplaced(19, 0),
+        Err(CopyRefusal::Walk(stop)) => StoreEnd {
+            end: end_of(Err(stop)),
             written: 0,
         },
     }

@@ -1,5 +1,6 @@
 -- The calls of a pull reader hand out what `Pull` says: the sections of the walk with unlimited tables, its refusal once, and then
 -- "ended" for ever.
+use Rattle.std.specs.Prelude.{Option, Some, None, Result, Ok, Err}
 use mathlib.Core.Path.{◌≡◌, refl, sym, ap, ◌∙◌}
 use mathlib.Core.Bool.{Bool, true, false}
 use mathlib.Core.List.{List, [], ◌∷◌}
@@ -14,8 +15,6 @@ use Rattle.framing.specs.declared.read.Section.{Section}
 use Rattle.index.specs.Lines.{place}
 use Rattle.index.specs.declared.refusal.Refusal.{Refusal}
 use Rattle.index.specs.declared.refusal.Refusal.TheVariants as refusal
-use Rattle.index.specs.declared.refusal.Outcome.{Outcome}
-use Rattle.index.specs.declared.refusal.Outcome.TheVariants as outcome
 use Rattle.index.specs.Bounds.{most_octets, unlimited}
 use Rattle.index.specs.Walk.{Reached, at_start, walked}
 use Rattle.reading.specs.Reading.{reading, seen}
@@ -25,12 +24,13 @@ use Rattle.reading.specs.declared.Seen.TheVariants as seen
 use Rattle.reading.proofs.Told.{told_start}
 use Rattle.reading.proofs.Untabled as steps
 use Rattle.reading.proofs.Untabled.{told_on, Bounded, Passes, Ends, first_told, first_bounded}
-use Rattle.pull.specs.declared.Pulled.{Pulled}
-use Rattle.pull.specs.declared.Pulled.TheVariants.{Refused, Ended}
 use Rattle.pull.specs.declared.Progress.{Progress}
 use Rattle.pull.specs.declared.Pull.{Pull}
 use Rattle.pull.specs.Calls.{first_of, further, handed_out, stopped, pull_by, pull_at, after_calls}
 use Rattle.pull.specs.Pull.{ends_with, hands_out, pulled}
+use Rattle.index.specs.Outcome.{Outcome, refused_there}
+use Rattle.index.specs.declared.listed.Listed.{Listed}
+use Rattle.index.specs.declared.refusal.Refused.{Refused}
 
 -- ---- calls
 
@@ -40,7 +40,7 @@ calls_from zero file p = p
 calls_from (suc call) file p = calls_from call file (pull_at file p).next
 
 -- what a call answers, counted from 0, from a progress on
-abbrev answer_at : ℕ → List ℕ → Progress → Pulled
+abbrev answer_at : ℕ → List ℕ → Progress → Option (Result Listed Refused)
 answer_at call file p = (pull_at file (calls_from call file p)).answer
 
 -- the last call of some is a call after the others
@@ -55,24 +55,24 @@ calls_are zero file = refl
 calls_are (suc call) file = ap (λ (p : Progress). (pull_at file p).next) (calls_are call file) ∙ sym (one_later call file (first_of file))
 
 -- once the end is told, every call answers that
-over_stays : (call : ℕ) (file : List ℕ) (p : Progress) → p.over ≡ true → answer_at call file p ≡ Ended
+over_stays : (call : ℕ) (file : List ℕ) (p : Progress) → p.over ≡ true → answer_at call file p ≡ None
 unfolding pull_at
 over_stays zero file p e = rw e
 over_stays (suc call) file p e = over_stays call file (pull_at file p).next (rw e)
 
 -- how an outcome is told at first
-abbrev end_of : Outcome → Pulled
-end_of outcome.Clean = Ended
-end_of (outcome.Refused why at offset) = Refused why at offset
+abbrev end_of : Outcome → Option (Result Listed Refused)
+end_of (Ok tt) = None
+end_of (Err stop) = Some (Err stop)
 
 -- a call that tells the end, and those after it
 end_told : (call : ℕ) (file : List ℕ) (p : Progress) (o : Outcome) → pull_at file p ≡ stopped p (end_of o)
     → answer_at call file p ≡ ends_with o call
 unfolding ends_with
-end_told zero file p outcome.Clean q = ap (λ (r : Pull). r.answer) q
-end_told zero file p (outcome.Refused why at offset) q = ap (λ (r : Pull). r.answer) q
-end_told (suc call) file p outcome.Clean q = over_stays call file (pull_at file p).next (rw q refl)
-end_told (suc call) file p (outcome.Refused why at offset) q = over_stays call file (pull_at file p).next (rw q refl)
+end_told zero file p (Ok tt) q = ap (λ (r : Pull). r.answer) q
+end_told zero file p (Err stop) q = ap (λ (r : Pull). r.answer) q
+end_told (suc call) file p (Ok tt) q = over_stays call file (pull_at file p).next (rw q refl)
+end_told (suc call) file p (Err stop) q = over_stays call file (pull_at file p).next (rw q refl)
 
 -- ---- the sequence
 
@@ -165,7 +165,7 @@ module _ (file : List ℕ) (fits : length file ≤ most_octets) where
 
 -- a file that is too long
 too_long : (file : List ℕ) → ltb most_octets (length file) ≡ true
-    → pull_at file (first_of file) ≡ stopped (first_of file) (Refused refusal.FileTooLong (place 0) (record { 0 = 0 }))
+    → pull_at file (first_of file) ≡ stopped (first_of file) (Some (Err (refused_there refusal.FileTooLong (place 0) (record { 0 = 0 }))))
 unfolding pull_at first_of
 too_long file e = rw e
 
@@ -173,7 +173,7 @@ refused_first : (file : List ℕ) (call : ℕ) → ltb most_octets (length file)
     → answer_at call file (first_of file) ≡ hands_out 0 (walked unlimited file).sections (walked unlimited file).outcome call
 unfolding hands_out
 refused_first file call e =
-    end_told call file (first_of file) (outcome.Refused refusal.FileTooLong (place 0) (record { 0 = 0 })) (too_long file e)
+    end_told call file (first_of file) (Err (refused_there refusal.FileTooLong (place 0) (record { 0 = 0 }))) (too_long file e)
     ∙ rw (told_start file unlimited, e)
 
 -- one that isn't
@@ -199,23 +199,23 @@ sequence file call = ap (λ (p : Progress). (pull_at file p).answer) (calls_are 
 -- ---- after the end
 
 -- once a call answered "ended", every later one does
-ends_later : (o : Outcome) (call later : ℕ) → call ≤ later → ends_with o call ≡ Ended → ends_with o later ≡ Ended
+ends_later : (o : Outcome) (call later : ℕ) → call ≤ later → ends_with o call ≡ None → ends_with o later ≡ None
 unfolding ends_with
-ends_later outcome.Clean call later h e = refl
-ends_later (outcome.Refused why at offset) zero later h e = absurd (let z : ◌≡◌ {A = ℕ} 0 1 = cc in omega arith)
-ends_later (outcome.Refused why at offset) (suc call) zero h e = absurd (omega arith)
-ends_later (outcome.Refused why at offset) (suc call) (suc later) h e = refl
+ends_later (Ok tt) call later h e = refl
+ends_later (Err stop) zero later h e = absurd (let z : ◌≡◌ {A = ℕ} 0 1 = cc in omega arith)
+ends_later (Err stop) (suc call) zero h e = absurd (omega arith)
+ends_later (Err stop) (suc call) (suc later) h e = refl
 
 hands_later : (at : ℕ) (sections : List Section) (o : Outcome) (call later : ℕ) → call ≤ later
-    → hands_out at sections o call ≡ Ended → hands_out at sections o later ≡ Ended
+    → hands_out at sections o call ≡ None → hands_out at sections o later ≡ None
 unfolding hands_out
 hands_later at [] o call later h e = ends_later o call later h e
 hands_later at (s ∷ more) o zero later h e = absurd (let z : ◌≡◌ {A = ℕ} 0 1 = cc in omega arith)
 hands_later at (s ∷ more) o (suc call) zero h e = absurd (omega arith)
 hands_later at (s ∷ more) o (suc call) (suc later) h e = hands_later (at + 1) more o call later (omega arith) e
 
-pub ended_stays : (file : List ℕ) (call later : ℕ) → call ≤ later → (pull_at file (after_calls call file)).answer ≡ Ended
-    → (pull_at file (after_calls later file)).answer ≡ Ended
+pub ended_stays : (file : List ℕ) (call later : ℕ) → call ≤ later → (pull_at file (after_calls call file)).answer ≡ None
+    → (pull_at file (after_calls later file)).answer ≡ None
 unfolding pulled
 ended_stays file call later h e =
     sequence file later
@@ -223,14 +223,14 @@ ended_stays file call later h e =
 
 -- every call after a refusal answers "ended"
 ends_after : (o : Outcome) (call later : ℕ) (why : Refusal) (at : Place) (offset : Offset) → call < later
-    → ends_with o call ≡ Refused why at offset → ends_with o later ≡ Ended
+    → ends_with o call ≡ Some (Err (refused_there why at offset)) → ends_with o later ≡ None
 unfolding ends_with
-ends_after outcome.Clean call later why at offset h e = refl
-ends_after (outcome.Refused why' at' offset') call zero why at offset h e = absurd (omega arith)
-ends_after (outcome.Refused why' at' offset') call (suc later) why at offset h e = refl
+ends_after (Ok tt) call later why at offset h e = refl
+ends_after (Err stop) call zero why at offset h e = absurd (omega arith)
+ends_after (Err stop) call (suc later) why at offset h e = refl
 
 hands_after : (n : ℕ) (sections : List Section) (o : Outcome) (call later : ℕ) (why : Refusal) (at : Place) (offset : Offset)
-    → call < later → hands_out n sections o call ≡ Refused why at offset → hands_out n sections o later ≡ Ended
+    → call < later → hands_out n sections o call ≡ Some (Err (refused_there why at offset)) → hands_out n sections o later ≡ None
 unfolding hands_out
 hands_after n [] o call later why at offset h e = ends_after o call later why at offset h e
 hands_after n (s ∷ more) o zero later why at offset h e = absurd (let z : ◌≡◌ {A = ℕ} 0 1 = cc in omega arith)
@@ -239,7 +239,7 @@ hands_after n (s ∷ more) o (suc call) (suc later) why at offset h e =
     hands_after (n + 1) more o call later why at offset (omega arith) e
 
 pub refused_ends : (file : List ℕ) (call later : ℕ) (why : Refusal) (at : Place) (offset : Offset) → call < later
-    → (pull_at file (after_calls call file)).answer ≡ Refused why at offset → (pull_at file (after_calls later file)).answer ≡ Ended
+    → (pull_at file (after_calls call file)).answer ≡ Some (Err (refused_there why at offset)) → (pull_at file (after_calls later file)).answer ≡ None
 unfolding pulled
 refused_ends file call later why at offset h e =
     sequence file later

@@ -1,5 +1,5 @@
 -- Machinery: one call of the pull reader, over where its reading stands.
-use Rattle.std.specs.Prelude.{ℕ, zero, suc, ◌+◌, true, false, List, ltb, length}
+use Rattle.std.specs.Prelude.{ℕ, zero, suc, ◌+◌, true, false, List, ltb, length, Option, Some, None, Result, Ok, Err}
 use Rattle.octets.specs.Words.{pick}
 use Rattle.framing.specs.declared.read.Section.{Section}
 use Rattle.order.specs.declared.Place.{Place}
@@ -10,10 +10,11 @@ use Rattle.reading.specs.Reading.{start, seen}
 use Rattle.reading.specs.declared.Reading.{Reading}
 use Rattle.reading.specs.declared.Seen.{Seen}
 use Rattle.reading.specs.declared.Seen.TheVariants as seen
-use Rattle.pull.specs.declared.Pulled.{Pulled}
-use Rattle.pull.specs.declared.Pulled.TheVariants.{Passed, Refused, Ended}
 use Rattle.pull.specs.declared.Progress.{Progress}
 use Rattle.pull.specs.declared.Pull.{Pull}
+use Rattle.index.specs.Outcome.{refused_there}
+use Rattle.index.specs.declared.listed.Listed.{Listed}
+use Rattle.index.specs.declared.refusal.Refused.{Refused}
 
 -- before the first call
 unfoldable pub first_of : List ℕ → Progress
@@ -27,7 +28,7 @@ further at = pick (ltb at.0 18446744073709551615) (place (at.0 + 1)) at
 abbrev pub handed_out : Place → Section → Reading → Pull
 handed_out at s next =
     record {
-      answer = Passed (record { place = at; section = s });
+      answer = Some (Ok (record { place = at; section = s }));
       next =
           record {
             reading = next;
@@ -38,7 +39,7 @@ handed_out at s next =
     }
 
 -- the end is told, and all is over
-abbrev pub stopped : Progress → Pulled → Pull
+abbrev pub stopped : Progress → Option (Result Listed Refused) → Pull
 stopped p answer =
     record {
       answer = answer;
@@ -50,20 +51,20 @@ unfoldable pub pull_by : Progress → Seen → Pull
 pull_by p (seen.Passes s next) = handed_out p.place s next
 pull_by p (seen.Closes s next) = handed_out p.place s next
 pull_by p (seen.Misplaced s) =
-    stopped p (Refused (refusal.Misplaced s.number) p.place s.offset)
-pull_by p (seen.NoGrid s) = stopped p (Refused (refusal.NoGrid s.number) p.place s.offset)
-pull_by p seen.Clean = stopped p Ended
+    stopped p (Some (Err (refused_there (refusal.Misplaced s.number) p.place s.offset)))
+pull_by p (seen.NoGrid s) = stopped p (Some (Err (refused_there (refusal.NoGrid s.number) p.place s.offset)))
+pull_by p seen.Clean = stopped p None
 pull_by p seen.InputOver =
-    stopped p (Refused refusal.InputOver p.last.place p.last.section.offset)
+    stopped p (Some (Err (refused_there refusal.InputOver p.last.place p.last.section.offset)))
 pull_by p (seen.Unreadable fault offset) =
-    stopped p (Refused (refusal.Unreadable fault) p.place offset)
+    stopped p (Some (Err (refused_there (refusal.Unreadable fault) p.place offset)))
 
 -- one call
 unfoldable pub pull_at : List ℕ → Progress → Pull
 pull_at file p =
-    pick p.over (record { answer = Ended; next = p })
+    pick p.over (record { answer = None; next = p })
     (pick (ltb most_octets (length file))
-    (stopped p (Refused refusal.FileTooLong (place 0) (record { 0 = 0 })))
+    (stopped p (Some (Err (refused_there refusal.FileTooLong (place 0) (record { 0 = 0 })))))
     (pull_by p (seen file p.reading)))
 
 -- the progress after so many calls

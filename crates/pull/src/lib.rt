@@ -3,23 +3,14 @@
 // and `pull_at` are the same over plain parameters.
 #![tactic(auto)]
 
-ghost use Rattle.std.specs.Prelude.{◌≡◌};
+ghost use Rattle.std.specs.Prelude.{◌≡◌, Some, Err};
 ghost use Rattle.pull.specs.Calls.{first_of, further, handed_out, stopped, pull_at};
-ghost use Rattle.pull.specs.declared.Pulled.TheVariants.{Refused};
+ghost use Rattle.index.specs.Outcome.{refused_there};
 
 use framing::{Offset, Section};
-use index::{Listed, MOST_OCTETS, Refusal, unlisted};
+use index::{Listed, MOST_OCTETS, Refusal, Refused, unlisted};
 use order::Place;
 use reading::{Reading, Seen, look, start};
-
-// What a call hands out.
-#[derive(Clone, Copy)]
-pub enum Pulled {
-    Passed(Listed),
-    // Why, and the place and the offset of the section at fault.
-    Refused(Refusal, Place, Offset),
-    Ended,
-}
 
 // Where the reading stands: the place of the section that is read next, the section passed last,
 // and whether the end was told.
@@ -33,7 +24,7 @@ pub struct Progress {
 
 #[derive(Clone, Copy)]
 pub struct Pull {
-    pub answer: Pulled,
+    pub answer: Option<Result<Listed, Refused>>,
     pub next: Progress,
 }
 
@@ -72,7 +63,7 @@ fn hand_out(place: Place, section: Section, reading: Reading) -> Pull
 {
     let last = Listed { place, section };
     Pull {
-        answer: Pulled::Passed(last),
+        answer: Some(Ok(last)),
         next: Progress {
             reading,
             place: further(place),
@@ -83,7 +74,7 @@ fn hand_out(place: Place, section: Section, reading: Reading) -> Pull
 }
 
 // The end is told, once.
-fn stop(progress: Progress, answer: Pulled) -> Pull
+fn stop(progress: Progress, answer: Option<Result<Listed, Refused>>) -> Pull
     ensures { result ≡ stopped progress answer }
 {
     let reading = progress.reading;
@@ -102,12 +93,12 @@ fn stop(progress: Progress, answer: Pulled) -> Pull
 
 // It is the refusal of a section.
 fn refuse(progress: Progress, why: Refusal, at: Listed) -> Pull
-    ensures { result ≡ stopped progress (Refused why at.place at.section.offset) }
+    ensures { result ≡ stopped progress (Some (Err (refused_there why at.place at.section.offset))) }
 {
     let place = at.place;
     let section = at.section;
     let offset = section.offset;
-    stop(progress, Pulled::Refused(why, place, offset))
+    stop(progress, Some(Err(Refused { why, place, offset })))
 }
 
 // One call at a progress, over plain parameters: the section passed, the refusal once, then that
@@ -117,14 +108,18 @@ pub fn pull_at(file: &[u8], progress: Progress) -> Pull
 {
     if progress.over {
         return Pull {
-            answer: Pulled::Ended,
+            answer: None,
             next: progress,
         };
     }
     if MOST_OCTETS < file.len() as u64 {
         return stop(
             progress,
-            Pulled::Refused(Refusal::FileTooLong, Place(0), Offset(0)),
+            Some(Err(Refused {
+                why: Refusal::FileTooLong,
+                place: Place(0),
+                offset: Offset(0),
+            })),
         );
     }
     let reading = progress.reading;
@@ -144,11 +139,15 @@ pub fn pull_at(file: &[u8], progress: Progress) -> Pull
             Refusal::NoGrid(section.number),
             Listed { place, section },
         ),
-        Seen::Clean => stop(progress, Pulled::Ended),
+        Seen::Clean => stop(progress, None),
         Seen::InputOver => refuse(progress, Refusal::InputOver, last),
         Seen::Unreadable(fault, offset) => stop(
             progress,
-            Pulled::Refused(Refusal::Unreadable(fault), place, offset),
+            Some(Err(Refused {
+                why: Refusal::Unreadable(fault),
+                place,
+                offset,
+            })),
         ),
     }
 }
@@ -164,7 +163,7 @@ pub fn new<'a>(file: &'a [u8]) -> Reader<'a>
 impl<'a> Reader<'a> {
     // The next section, the refusal, or that the reading has ended: what `pull_at` answers where
     // the reader stands. The reader keeps its file and moves to the next progress.
-    pub fn next(&mut self) -> Pulled
+    pub fn next(&mut self) -> Option<Result<Listed, Refused>>
         ensures { (result ≡ (pull_at self.old.file.now self.old.progress).answer)
             × ((self.new.file ≡ self.old.file)
             × (self.new.progress

@@ -1,4 +1,5 @@
 -- What a walk tells from a place of the file on, by the section that is seen there: the one law that every loop over `look` cites.
+use Rattle.std.specs.Prelude.{None, Ok, Err}
 use mathlib.Core.Path.{◌≡◌, refl, sym, ap, ◌∙◌}
 use mathlib.Core.Bool.{Bool, true, false}
 use mathlib.Core.List.{List, [], ◌∷◌}
@@ -21,10 +22,8 @@ use Rattle.framing.specs.Read as read
 use Rattle.framing.proofs.Listing.{listing_on, listing_next, listing_is}
 use Rattle.framing.proofs.Tests.{by_test}
 use Rattle.index.specs.Lines.{place, line_of}
-use Rattle.index.specs.declared.line.MessageEnd.TheVariants.{GoesOn}
 use Rattle.index.specs.declared.line.Line.{Line}
 use Rattle.index.specs.declared.refusal.Refusal.TheVariants as refusal
-use Rattle.index.specs.declared.refusal.Outcome.TheVariants as outcome
 use Rattle.index.specs.Bounds.{most_octets}
 use Rattle.index.specs.declared.bounds.Room.{Room}
 use Rattle.index.specs.Walk.{
@@ -48,6 +47,7 @@ use Rattle.reading.specs.Reading as spec
 use Rattle.reading.specs.declared.Seen.{Seen}
 use Rattle.reading.specs.declared.Seen.TheVariants.{Passes, Closes, Misplaced, NoGrid, Clean, InputOver, Unreadable}
 use Rattle.reading.proofs.Between.{as_judged}
+use Rattle.index.specs.Outcome.{refused_there}
 
 -- what a walk tells from a cursor on
 unfoldable pub told_from : List ℕ → Room → Reached → Cursor → Told
@@ -59,7 +59,7 @@ told_from file room r cursor =
 abbrev pub completed : Bool → Room → Reached → (Reached → List Line → Judgement) → Judgement
 completed true room r then =
     pick (leb room.lines r.lines) (stops [] refusal.SubmessageTableFull)
-    (then (gone_on r) (line_of r.force GoesOn ∷ []))
+    (then (gone_on r) (line_of r.force None ∷ []))
 completed false room r then = then r []
 
 -- what a walk tells because of what is seen, put before what it tells from there on
@@ -69,11 +69,11 @@ told_by file room r (Passes s next) =
     (λ r'. told_from file room r' next.cursor)
 told_by file room r (Closes s next) = followed r s (closing room r s) (λ r'. told_from file room r' next.cursor)
 told_by file room r (Misplaced s) =
-    followed r s (completed (completes r.order s.number) room r (λ r' lines. stops lines (refusal.Misplaced s.number))) (λ r'. ends outcome.Clean)
-told_by file room r (NoGrid s) = followed r s (stops [] (refusal.NoGrid s.number)) (λ r'. ends outcome.Clean)
-told_by file room r Clean = ends outcome.Clean
-told_by file room r InputOver = ends (outcome.Refused refusal.InputOver r.last.place r.last.section.offset)
-told_by file room r (Unreadable fault offset) = ends (outcome.Refused (refusal.Unreadable fault) (place r.sections) offset)
+    followed r s (completed (completes r.order s.number) room r (λ r' lines. stops lines (refusal.Misplaced s.number))) (λ r'. ends (Ok tt))
+told_by file room r (NoGrid s) = followed r s (stops [] (refusal.NoGrid s.number)) (λ r'. ends (Ok tt))
+told_by file room r Clean = ends (Ok tt)
+told_by file room r InputOver = ends (Err (refused_there refusal.InputOver r.last.place r.last.section.offset))
+told_by file room r (Unreadable fault offset) = ends (Err (refused_there (refusal.Unreadable fault) (place r.sections) offset))
 
 -- a section that completes a submessage is judged as the start of the next one
 judges : (room : Room) (r : Reached) (s : Section) (t : Bool) → completes r.order s.number ≡ t
@@ -111,7 +111,7 @@ module _ (file : List ℕ) (room : Room) (r : Reached) where
       later r' = told_from file room r' cursor
 
       later' : Reached → Told
-      later' r' = ends outcome.Clean
+      later' r' = ends (Ok tt)
 
       -- where the walk stops nothing comes later
       stopping : (t : Bool)
@@ -124,7 +124,7 @@ module _ (file : List ℕ) (room : Room) (r : Reached) where
 
   -- the input over
   by_over : (t : Bool) → is_between r.order ≡ t
-      → ends (pick t outcome.Clean (outcome.Refused refusal.InputOver r.last.place r.last.section.offset))
+      → ends (pick t (Ok tt) (Err (refused_there refusal.InputOver r.last.place r.last.section.offset)))
       ≡ told_by file room r (pick t Clean InputOver)
   unfolding told_by
   by_over true e = refl
@@ -154,10 +154,10 @@ module _ (file : List ℕ) (room : Room) (r : Reached) where
 -- the walk of a file is that from its start on, unless the file is over 2^40 octets
 pub told_start : (file : List ℕ) (room : Room)
     → walked room file
-    ≡ pick (ltb most_octets (length file)) (ends (outcome.Refused refusal.FileTooLong (place 0) (record { 0 = 0 })))
+    ≡ pick (ltb most_octets (length file)) (ends (Err (refused_there refusal.FileTooLong (place 0) (record { 0 = 0 }))))
     (told_from file room (at_start file) (spec.start).cursor)
 unfolding walked told_from
 told_start file room =
-    ap (λ (l : Listing). pick (ltb most_octets (length file)) (ends (outcome.Refused refusal.FileTooLong (place 0) (record { 0 = 0 })))
+    ap (λ (l : Listing). pick (ltb most_octets (length file)) (ends (Err (refused_there refusal.FileTooLong (place 0) (record { 0 = 0 }))))
     (walked_from room (at_start file) l.sections l.ending))
     (listing_is file)

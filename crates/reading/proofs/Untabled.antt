@@ -1,4 +1,5 @@
 -- The walk where no table is lent, over what is seen: a section is passed, or the walk ends. For every loop over `look` without tables.
+use Rattle.std.specs.Prelude.{Some, None, Ok, Err}
 use mathlib.Core.Path.{◌≡◌, refl, ap, ◌∙◌}
 use mathlib.Core.Bool.{Bool, true, false}
 use mathlib.Core.List.{List, [], ◌∷◌, ◌++◌}
@@ -20,11 +21,8 @@ use Rattle.framing.specs.Read as read
 use Rattle.framing.proofs.OneRead.{Reads, reads_as}
 use Rattle.index.specs.Lines.{place, opened, line_of}
 use Rattle.index.specs.declared.line.Force.{Force}
-use Rattle.index.specs.declared.line.MessageEnd.TheVariants.{GoesOn, ClosedAt}
 use Rattle.index.specs.declared.line.Line.{Line}
 use Rattle.index.specs.declared.refusal.Refusal.TheVariants as refusal
-use Rattle.index.specs.declared.refusal.Outcome.{Outcome}
-use Rattle.index.specs.declared.refusal.Outcome.TheVariants.{Clean, Refused}
 use Rattle.index.specs.Bounds.{most_octets, unlimited}
 use Rattle.index.specs.Walk.{Reached, at_start, here, comes_in_force, gone_on, fitted, closing, Told, walked}
 use Rattle.reading.specs.Reading.{reading, start, Settled, seen}
@@ -44,6 +42,7 @@ use Rattle.reading.proofs.Moves.{
   closes_settled,
 }
 use Rattle.reading.proofs.Told.{told_from, told_by, told_next, told_start}
+use Rattle.index.specs.Outcome.{Outcome, refused_there}
 
 -- what the walk tells from here on
 abbrev pub told_on : List ℕ → Reached → Cursor → Told
@@ -62,9 +61,9 @@ pub data Moved (r : Reached) (s : Section) (next : Order) : Force → List Line 
   on_within : completes r.order s.number ≡ false → judged r.order s.number ≡ order.Fits next
       → Moved r s next (comes_in_force r.file r.force s (place r.sections)) []
   on_completing : completes r.order s.number ≡ true → judged r.order s.number ≡ order.Fits next
-      → Moved r s next (comes_in_force r.file (gone_on r).force s (place r.sections)) (line_of r.force GoesOn ∷ [])
+      → Moved r s next (comes_in_force r.file (gone_on r).force s (place r.sections)) (line_of r.force None ∷ [])
   on_closing : judged r.order s.number ≡ order.Closes
-      → Moved r s next (opened (r.force.message + 1)) (line_of r.force (ClosedAt (place r.sections)) ∷ [])
+      → Moved r s next (opened (r.force.message + 1)) (line_of r.force (Some (place r.sections)) ∷ [])
 
 -- a section is passed: the walk goes on with q
 pub record Passes (file : List ℕ) (r : Reached) (cursor : Cursor) (s : Section) (next : Reading) : Type 0 where
@@ -135,7 +134,7 @@ module _ (file : List ℕ) (fits : length file ≤ most_octets) (r : Reached) (c
           between = λ b. absurd (never_both b (fits_open r.order s.number (passes_fits file (reading cursor r.order) bounded.settled e)));
           sections = ap (λ (t : Told). t.sections) (tells e) ∙ rw (c, lines, rows);
           outcome = ap (λ (t : Told). t.outcome) (tells e) ∙ rw (c, lines, rows);
-          lines = line_of r.force GoesOn ∷ [];
+          lines = line_of r.force None ∷ [];
           lined = refl;
           moved = on_completing c (passes_fits file (reading cursor r.order) bounded.settled e);
           lines_told = ap (λ (t : Told). t.lines) (tells e) ∙ rw (c, lines, rows);
@@ -198,7 +197,7 @@ module _ (file : List ℕ) (fits : length file ≤ most_octets) (r : Reached) (c
           between = λ b. (closes_only r.order s.number (closes_judged file (reading cursor r.order) bounded.settled e)).1;
           sections = ap (λ (t : Told). t.sections) (tells e) ∙ rw (rows, lines, closes_between file (reading cursor r.order) e);
           outcome = ap (λ (t : Told). t.outcome) (tells e) ∙ rw (rows, lines, closes_between file (reading cursor r.order) e);
-          lines = line_of r.force (ClosedAt (place r.sections)) ∷ [];
+          lines = line_of r.force (Some (place r.sections)) ∷ [];
           lined = refl;
           moved = on_closing (closes_judged file (reading cursor r.order) bounded.settled e);
           lines_told = ap (λ (t : Told). t.lines) (tells e) ∙ rw (rows, lines, closes_between file (reading cursor r.order) e);
@@ -211,7 +210,7 @@ module _ (file : List ℕ) (fits : length file ≤ most_octets) (r : Reached) (c
   closes {next = next} e = closing_passes next (closes_stands file (reading cursor r.order) e) e
 
   -- how it ends
-  pub clean : Sees seen.Clean → Ends (told_on file r cursor) Clean
+  pub clean : Sees seen.Clean → Ends (told_on file r cursor) (Ok tt)
   unfolding told_by
   clean e = rw (tells e) (record { none = refl; outcome = refl })
 
@@ -219,26 +218,26 @@ module _ (file : List ℕ) (fits : length file ≤ most_octets) (r : Reached) (c
   unfolding told_by
   clean_lines e = rw (tells e)
 
-  pub input_over_lem : Sees seen.InputOver → Ends (told_on file r cursor) (Refused refusal.InputOver r.last.place r.last.section.offset)
+  pub input_over_lem : Sees seen.InputOver → Ends (told_on file r cursor) (Err (refused_there refusal.InputOver r.last.place r.last.section.offset))
   unfolding told_by
   input_over_lem e = rw (tells e) (record { none = refl; outcome = refl })
 
   pub unreadable : {fault : Fault} {offset : Offset} → Sees (seen.Unreadable fault offset)
-      → Ends (told_on file r cursor) (Refused (refusal.Unreadable fault) (place r.sections) offset)
+      → Ends (told_on file r cursor) (Err (refused_there (refusal.Unreadable fault) (place r.sections) offset))
   unfolding told_by
   unreadable e = rw (tells e) (record { none = refl; outcome = refl })
 
   pub no_grid : {s : Section} → Sees (seen.NoGrid s)
-      → Ends (told_on file r cursor) (Refused (refusal.NoGrid s.number) (place r.sections) s.offset)
+      → Ends (told_on file r cursor) (Err (refused_there (refusal.NoGrid s.number) (place r.sections) s.offset))
   unfolding told_by
   no_grid e = rw (tells e) (record { none = refl; outcome = refl })
 
   pub misplaced : {s : Section} → Sees (seen.Misplaced s)
-      → Ends (told_on file r cursor) (Refused (refusal.Misplaced s.number) (place r.sections) s.offset)
+      → Ends (told_on file r cursor) (Err (refused_there (refusal.Misplaced s.number) (place r.sections) s.offset))
   unfolding told_by
   misplaced {s} e = by_completing (completes r.order s.number) refl
     where
       by_completing : (t : Bool) → completes r.order s.number ≡ t
-          → Ends (told_on file r cursor) (Refused (refusal.Misplaced s.number) (place r.sections) s.offset)
+          → Ends (told_on file r cursor) (Err (refused_there (refusal.Misplaced s.number) (place r.sections) s.offset))
       by_completing true c = rw (tells e, c, lines) (record { none = refl; outcome = refl })
       by_completing false c = rw (tells e, c) (record { none = refl; outcome = refl })

@@ -1,4 +1,5 @@
 -- What is read where the tests of `is_whole`, `header_ahead` and `end_ahead` pass.
+use Rattle.std.specs.Prelude.{Option, Some, None}
 use Prim.Native.Nat.{ℕ, ◌+◌, ◌-◌, ◌≤◌, ◌<◌}
 use native.Mathlib.Nat.{add-zero}
 use native.Mathlib.Omega.{arith}
@@ -10,23 +11,21 @@ use lib.ListN.{length, get_or}
 use borrow.Author.Tests.{eqb-true, lt-leb, le-ltb, ne_eqb}
 use Rattle.octets.specs.BigEndian.{be_at}
 use Rattle.sections.specs.Kinds.{least_payload_of, kind_of, kinds}
-use Rattle.sections.specs.declared.kinds.LeastOf.{LeastOf}
-use Rattle.sections.specs.declared.kinds.LeastOf.TheVariants.{Octets, NoHeader}
 use Rattle.framing.specs.Search.{says}
 use Rattle.framing.specs.Framing.{section_at, end_at, is_cut, payload_at, header_at, read_at}
 use Rattle.framing.specs.Read.{Read}
 
 -- the octets of a least payload
-octets_of : LeastOf → ℕ
-octets_of (Octets n) = n
-octets_of NoHeader = 0
+octets_of : Option ℕ → ℕ
+octets_of (Some n) = n
+octets_of None = 0
 
 -- the least payload of a section 6 is an octet
-of_6 : (number least : ℕ) → least_payload_of number ≡ Octets least → number ≡ 6 → least ≡ 1
+of_6 : (number least : ℕ) → least_payload_of number ≡ Some least → number ≡ 6 → least ≡ 1
 unfolding least_payload_of kind_of kinds octets_of
 of_6 number least of e = sym (ap octets_of (ap least_payload_of (sym e) ∙ of))
 
-module _ (number len left least : ℕ) (of : least_payload_of number ≡ Octets least) (header : 5 ≤ len) (enough : least ≤ len - 5) where
+module _ (number len left least : ℕ) (of : least_payload_of number ≡ Some least) (header : 5 ≤ len) (enough : least ≤ len - 5) where
   -- a section that lies in the file is not cut
   pub uncut : len ≤ left → is_cut number len left ≡ false
   unfolding is_cut

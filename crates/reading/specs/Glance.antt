@@ -1,5 +1,5 @@
 -- Machinery: a section with a header that fits and is whole, seen at a glance.
-use Rattle.std.specs.Prelude.{ℕ, ◌-◌, ◌≤◌, Bool, true, ◌≡◌, List, eqb}
+use Rattle.std.specs.Prelude.{ℕ, ◌-◌, ◌≤◌, Bool, true, ◌≡◌, List, eqb, Option, Some, None}
 use Rattle.octets.specs.Words.{pick}
 use Rattle.sections.specs.Kinds as kinds
 use Rattle.sections.specs.Kinds.{least_payload_of}
@@ -20,8 +20,6 @@ use Rattle.order.specs.declared.Order.TheVariants.{
   AfterData,
 }
 use Rattle.order.specs.declared.Judged.TheVariants.{Fits, Closes}
-use Rattle.reading.specs.declared.quick.Ahead.{Ahead}
-use Rattle.reading.specs.declared.quick.Ahead.TheVariants as ahead
 
 -- what was read last, after a section of this number
 unfoldable pub last_read : ℕ → Order
@@ -68,6 +66,6 @@ pub record ClosingAhead
   pub closes : judged_read order s.number ≡ Closes
 
 -- what holds of a section that was seen
-unfoldable pub Glanced : (Section → Cursor → Type 0) → Ahead → Type 0
-Glanced P (ahead.Section s next) = P s next
-Glanced P ahead.Other = Unit
+unfoldable pub Glanced : (Section → Cursor → Type 0) → Option (Section × Cursor) → Type 0
+Glanced P (Some (s, next)) = P s next
+Glanced P None = Unit

@@ -1,10 +1,8 @@
 -- The table of lines that a desk owns before it is lent: every number of every line is the largest
 -- number.
-use Rattle.std.specs.Prelude.{ℕ, min, ◌-◌, List, ◌++◌, replicate}
+use Rattle.std.specs.Prelude.{ℕ, min, ◌-◌, List, ◌++◌, replicate, Some}
 use Rattle.index.specs.Lines.{place, span}
 use Rattle.index.specs.declared.line.Line.{Line}
-use Rattle.index.specs.declared.line.LocalUsePlace.TheVariants.{At}
-use Rattle.index.specs.declared.line.MessageEnd.TheVariants.{ClosedAt}
 use Rattle.walk.specs.Tables.{Tabled, walk_of}
 
 -- the largest number
@@ -19,13 +17,13 @@ unset =
       submessage = largest;
       indicator = place largest;
       identification = place largest;
-      local = At (place largest);
+      local = Some (place largest);
       grid = place largest;
       product = place largest;
       representation = place largest;
       bitmap = place largest;
       values = place largest;
-      end = ClosedAt (place largest);
+      end = Some (place largest);
       span = span (record { 0 = largest }) largest;
     }
 

@@ -4,7 +4,7 @@ ghost use Rattle.std.specs.Prelude.{◌≡◌, min, length};
 ghost use Rattle.replaying.specs.Desk.{unset, desk_walk, desk_lines};
 
 use framing::Offset;
-use index::{Line, LocalUsePlace, MessageEnd, Span};
+use index::{Line, Span};
 use order::Place;
 use walk::{Answer, walk};
 
@@ -38,28 +38,18 @@ fn unset_line() -> Line
         submessage: u64::MAX,
         indicator: none,
         identification: none,
-        local: LocalUsePlace::At(none),
+        local: Some(none),
         grid: none,
         product: none,
         representation: none,
         bitmap: none,
         values: none,
-        end: MessageEnd::ClosedAt(none),
+        end: Some(none),
         span: Span {
             offset: Offset(u64::MAX),
             total: u64::MAX,
         },
     }
-}
-
-// As many lines as are asked for, and the desk has.
-fn lent(room: usize) -> usize
-    ensures { result ≡ min room 512 }
-{
-    if room < LINES {
-        return room;
-    }
-    LINES
 }
 
 // Walks a file with so many of the desk's lines lent.
@@ -70,7 +60,7 @@ pub(crate) fn walk_at_desk(file: &[u8], rows: &mut [u64], room: usize) -> Desk
     ensures rows { rows.new
         ≡ (desk_walk file.now rows.old room).rows }
 {
-    let most = lent(room);
+    let most = room.min(LINES);
     let unset = unset_line();
     let mut lines = [unset; LINES];
     let answer = walk(file, &mut *rows, &mut lines[..most]);

@@ -35,10 +35,9 @@ fn empty_entries() -> [u64; NUMBERS]
 fn read_with(out: &mut impl io::Write, list: &[u8], table: &mut [u64]) -> io::Result<()> {
     fill(&mut *table);
     let answer = read_list(list, &mut *table);
-    let end = answer.end;
     let told = at_most(answer.entries, table.len() / ENTRY);
     text(out, b"list")?;
-    end_fields(out, list_end(end))?;
+    end_fields(out, list_end(answer.end))?;
     field(out, answer.entries)?;
     line_end(out)?;
     entry_lines(out, &*table, told)?;
@@ -48,11 +47,9 @@ fn read_with(out: &mut impl io::Write, list: &[u8], table: &mut [u64]) -> io::Re
 fn entry_lines(out: &mut impl io::Write, table: &[u64], count: usize) -> io::Result<()>
     requires { count * 13 ≤ length table.now }
 {
-    let mut entry: usize = 0;
-    while entry < count {
+    for entry in 0..count {
         let from = entry * ENTRY;
         entry_line(out, &table[from..from + ENTRY])?;
-        entry += 1;
     }
     Ok(())
 }

@@ -18,10 +18,8 @@ fn number_before(i: usize) -> u64
 pub(crate) fn fill(table: &mut [u64])
     ensures { NumbersBefore table.new 0 }
 {
-    let mut i: usize = 0;
-    while i < table.len() {
+    for i in 0..table.len() {
         table[i] = number_before(i);
-        i += 1;
     }
 }
 
@@ -30,12 +28,10 @@ pub(crate) fn numbers_untouched(table: &[u64], from: usize) -> bool
     ensures yes { result ≡ true → NumbersBefore table.now from }
     ensures only { NumbersBefore table.now from → result ≡ true }
 {
-    let mut i = from;
-    while i < table.len() {
+    for i in from..table.len() {
         if table[i] != number_before(i) {
             return false;
         }
-        i += 1;
     }
     true
 }

@@ -3,7 +3,8 @@ ghost use Rattle.std.specs.Prelude.{◌≡◌, ◌≤◌, min};
 
 use crate::desk::LINES;
 use crate::printing::{decimal, field, line_end, outcome, text};
-use index::{Line, LocalUsePlace, MessageEnd, Outcome};
+use index::{Line, Outcome};
+use order::Place;
 use std::io;
 use walk::Answer;
 
@@ -36,11 +37,9 @@ fn first_lines(
 ) -> io::Result<()>
     requires { count ≤ 512 }
 {
-    let mut i: usize = 0;
-    while i < count {
+    for i in 0..count {
         text(out, head)?;
         submessage(out, lines[i])?;
-        i += 1;
     }
     Ok(())
 }
@@ -63,45 +62,34 @@ pub(crate) fn section_line(
 // Message and submessage number, then the nine places, with `-` for no section 2 and `open` for a
 // message that goes on; its octet offset and total length.
 fn submessage(out: &mut impl io::Write, line: Line) -> io::Result<()> {
-    let indicator = line.indicator;
-    let identification = line.identification;
-    let local = line.local;
-    let grid = line.grid;
-    let product = line.product;
-    let representation = line.representation;
-    let bitmap = line.bitmap;
-    let values = line.values;
-    let end = line.end;
-    let span = line.span;
-    let offset = span.offset;
     decimal(out, line.message)?;
     text(out, b".")?;
     decimal(out, line.submessage)?;
-    field(out, indicator.0)?;
-    field(out, identification.0)?;
-    local_use(out, local)?;
-    field(out, grid.0)?;
-    field(out, product.0)?;
-    field(out, representation.0)?;
-    field(out, bitmap.0)?;
-    field(out, values.0)?;
-    message_end(out, end)?;
-    field(out, offset.0)?;
-    field(out, span.total)?;
+    field(out, line.indicator.0)?;
+    field(out, line.identification.0)?;
+    local_use(out, line.local)?;
+    field(out, line.grid.0)?;
+    field(out, line.product.0)?;
+    field(out, line.representation.0)?;
+    field(out, line.bitmap.0)?;
+    field(out, line.values.0)?;
+    message_end(out, line.end)?;
+    field(out, line.span.offset.0)?;
+    field(out, line.span.total)?;
     line_end(out)
 }
 
-fn local_use(out: &mut impl io::Write, local: LocalUsePlace) -> io::Result<()> {
+fn local_use(out: &mut impl io::Write, local: Option<Place>) -> io::Result<()> {
     match local {
-        LocalUsePlace::At(place) => field(out, place.0),
-        LocalUsePlace::Absent => text(out, b" -"),
+        Some(place) => field(out, place.0),
+        None => text(out, b" -"),
     }
 }
 
-fn message_end(out: &mut impl io::Write, end: MessageEnd) -> io::Result<()> {
+fn message_end(out: &mut impl io::Write, end: Option<Place>) -> io::Result<()> {
     match end {
-        MessageEnd::GoesOn => text(out, b" open"),
-        MessageEnd::ClosedAt(place) => field(out, place.0),
+        None => text(out, b" open"),
+        Some(place) => field(out, place.0),
     }
 }
 
@@ -116,8 +104,5 @@ pub(crate) fn end(out: &mut impl io::Write, how: Outcome) -> io::Result<()> {
 pub(crate) fn at_most(count: u64, room: usize) -> usize
     ensures { result ≡ min count room }
 {
-    if count < room as u64 {
-        return count as usize;
-    }
-    room
+    count.min(room as u64) as usize
 }

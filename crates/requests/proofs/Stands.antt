@@ -1,5 +1,6 @@
 -- What it means that a request's octets stand inside the input, behind its kind octet, and that its
 -- numbers are no larger than their limits; and that the next request starts behind it.
+use Rattle.std.specs.Prelude.{Option, Some, None}
 use Prim.Native.Nat.{ℕ, ◌<◌, ◌≤◌}
 use mathlib.Core.List.{List}
 use lib.ListN.{length}
@@ -8,7 +9,7 @@ use Rattle.requests.specs.declared.Request.{Request}
 use Rattle.requests.specs.declared.Writing.{Writing}
 use Rattle.requests.specs.declared.Request.TheVariants.{Walk, Pull, Copy, Write}
 use Rattle.requests.specs.declared.Request.TheVariants.{Fields, Signed, Inventory}
-use Rattle.requests.specs.declared.Request.TheVariants.{Offsets, WhenWhere, Bad}
+use Rattle.requests.specs.declared.Request.TheVariants.{Offsets, WhenWhere}
 use Rattle.requests.specs.declared.Request.TheVariants as request
 
 -- octets from `from` up to `to` stand inside the input and behind the octet at `at`
@@ -40,15 +41,15 @@ pub record Goes (s : List ℕ) (at next : ℕ) : Type 0 where
   pub inside : next ≤ length s
 
 -- the octets of a request do; behind one that has numbers alone the next one starts
-abbrev pub Stands : List ℕ → ℕ → Request → Type 0
-Stands s at (Walk n m from to) = Walked s at n m from to
-Stands s at (Pull from to) = Inside s at from to
-Stands s at (Copy d from to) = Roomed 262144 s at d from to
-Stands s at (Write w) = ToWrite s at w
-Stands s at (Fields number from to) = Inside s at from to
-Stands s at (Signed from to) = Inside s at from to
-Stands s at (Inventory d from to) = Roomed 262144 s at d from to
-Stands s at (request.List m from to) = Roomed 512 s at m from to
-Stands s at (Offsets reading template to) = Goes s at to
-Stands s at (WhenWhere reading from to) = Inside s at from to
-Stands s at Bad = Unit
+abbrev pub Stands : List ℕ → ℕ → Option Request → Type 0
+Stands s at (Some (Walk n m from to)) = Walked s at n m from to
+Stands s at (Some (Pull from to)) = Inside s at from to
+Stands s at (Some (Copy d from to)) = Roomed 262144 s at d from to
+Stands s at (Some (Write w)) = ToWrite s at w
+Stands s at (Some (Fields number from to)) = Inside s at from to
+Stands s at (Some (Signed from to)) = Inside s at from to
+Stands s at (Some (Inventory d from to)) = Roomed 262144 s at d from to
+Stands s at (Some (request.List m from to)) = Roomed 512 s at m from to
+Stands s at (Some (Offsets reading template to)) = Goes s at to
+Stands s at (Some (WhenWhere reading from to)) = Inside s at from to
+Stands s at None = Unit

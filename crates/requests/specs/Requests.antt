@@ -1,6 +1,6 @@
 -- The requests of an input, in docs/REPLAY.md's words and order: one kind octet, then numbers, then
 -- octets.
-use Rattle.std.specs.Prelude.{ℕ, ◌+◌, ◌*◌, ◌≤◌, List, eqb, ltb, leb, length, get_or}
+use Rattle.std.specs.Prelude.{ℕ, ◌+◌, ◌*◌, ◌≤◌, List, eqb, ltb, leb, length, get_or, Option, Some, None}
 use Rattle.octets.specs.Words.{pick}
 use Rattle.octets.specs.BigEndian.{be_at}
 use Rattle.products.specs.declared.templates.TemplateReading.{TemplateReading}
@@ -9,58 +9,56 @@ use Rattle.requests.specs.declared.Request.{Request}
 use Rattle.requests.specs.declared.Writing.{Writing}
 use Rattle.requests.specs.declared.Request.TheVariants.{Walk, Pull, Copy, Write}
 use Rattle.requests.specs.declared.Request.TheVariants.{Fields, Signed, Inventory}
-use Rattle.requests.specs.declared.Request.TheVariants.{Offsets, WhenWhere, Bad}
+use Rattle.requests.specs.declared.Request.TheVariants.{Offsets, WhenWhere}
 use Rattle.requests.specs.declared.Request.TheVariants as request
-use Rattle.requests.specs.declared.kinds.FileInto.{FileInto}
-use Rattle.requests.specs.declared.kinds.FileInto.TheVariants as into
-use Rattle.requests.specs.declared.kinds.NumberedPayload.{NumberedPayload}
-use Rattle.requests.specs.declared.kinds.NumberedPayload.TheVariants as numbered
-use Rattle.requests.specs.declared.kinds.MaybeReading.{MaybeReading}
-use Rattle.requests.specs.declared.kinds.MaybeReading.TheVariants.{Named, NoReading}
+use Rattle.requests.specs.declared.kinds.IntoKind.{IntoKind}
+use Rattle.requests.specs.declared.kinds.IntoKind.TheVariants as into
+use Rattle.requests.specs.declared.kinds.PayloadKind.{PayloadKind}
+use Rattle.requests.specs.declared.kinds.PayloadKind.TheVariants as payload
 
 -- a request that runs to `to`, unless the end of the input cuts it
-abbrev pub whole : List ℕ → ℕ → Request → Request
-whole input to request = pick (ltb (length input) to) Bad request
+abbrev pub whole : List ℕ → ℕ → Option Request → Option Request
+whole input to request = pick (ltb (length input) to) None request
 
--- a request with a number over its limit is bad
-abbrev pub up_to : ℕ → ℕ → Request → Request
-up_to most number request = pick (ltb most number) Bad request
+-- a request, unless a number of it is over its limit
+abbrev pub up_to : ℕ → ℕ → Option Request → Option Request
+up_to most number request = pick (ltb most number) None request
 
 -- `W`: n (2): numbers in the section table, at most 6,144; m (2): lines in the submessage table, at
 -- most 512; length (4); the file
-unfoldable pub walk_request_at : List ℕ → ℕ → Request
+unfoldable pub walk_request_at : List ℕ → ℕ → Option Request
 walk_request_at input at =
     let n = be_at input (at + 1) 2 in
     let m = be_at input (at + 3) 2 in
     let from = at + 9 in
     let to = from + be_at input (at + 5) 4 in
-    whole input to (up_to 6144 n (up_to 512 m (Walk n m from to)))
+    whole input to (up_to 6144 n (up_to 512 m (Some (Walk n m from to))))
 
 -- `P`: length (4); the file
-unfoldable pub pull_request_at : List ℕ → ℕ → Request
+unfoldable pub pull_request_at : List ℕ → ℕ → Option Request
 pull_request_at input at =
     let from = at + 5 in
     let to = from + be_at input (at + 1) 4 in
-    whole input to (Pull from to)
+    whole input to (Some (Pull from to))
 
 -- `C` and `I`: d (4): length of the destination, or of the text buffer, at most 262,144; length
 -- (4); the file
-unfoldable pub into_request_at : (ℕ → ℕ → ℕ → Request) → List ℕ → ℕ → Request
+unfoldable pub into_request_at : (ℕ → ℕ → ℕ → Request) → List ℕ → ℕ → Option Request
 into_request_at kind input at =
     let d = be_at input (at + 1) 4 in
     let from = at + 9 in
     let to = from + be_at input (at + 5) 4 in
-    whole input to (up_to 262144 d (kind d from to))
+    whole input to (up_to 262144 d (Some (kind d from to)))
 
--- the request of one of these kinds, of what is read alike for both
-abbrev pub request_into : (ℕ → ℕ → ℕ → Request) → FileInto → Request
-request_into kind (into.Whole d from to) = kind d from to
-request_into kind into.Bad = Bad
+-- the request of each
+abbrev pub into_kind : IntoKind → ℕ → ℕ → ℕ → Request
+into_kind into.Copy = Copy
+into_kind into.Inventory = Inventory
 
 -- `M`: discipline (1); reserved (1), reserved (1); k (2): sections of the plan; k times number (8),
 -- offset (8), length (8); store length (4); the store; d (4): length of the destination, at most
 -- 262,144
-unfoldable pub write_request_at : List ℕ → ℕ → Request
+unfoldable pub write_request_at : List ℕ → ℕ → Option Request
 write_request_at input at =
     let k = be_at input (at + 4) 2 in
     let plan = at + 6 in
@@ -71,6 +69,7 @@ write_request_at input at =
     let to = end + 4 in
     whole input to
     (up_to 262144 d
+    (Some
     (Write
     (record {
       discipline = get_or input (at + 1) 0;
@@ -82,7 +81,7 @@ write_request_at input at =
       end = end;
       room = d;
       to = to;
-    })))
+    }))))
 
 -- a message to be written whose rows, and behind them whose store, stand inside the input, and
 -- whose destination is no longer than its limit
@@ -93,82 +92,79 @@ pub record Planned (input : List ℕ) (w : Writing) : Type 0 where
   pub room : w.room ≤ 262144
 
 -- `F` and `T`: section number, or reading (1); length (4); the payload
-unfoldable pub payload_request_at : (ℕ → ℕ → ℕ → Request) → List ℕ → ℕ → Request
+unfoldable pub payload_request_at : (ℕ → ℕ → ℕ → Option Request) → List ℕ → ℕ → Option Request
 payload_request_at kind input at =
     let from = at + 6 in
     let to = from + be_at input (at + 2) 4 in
     whole input to (kind (get_or input (at + 1) 0) from to)
 
--- the request of one of these kinds, of what is read alike for both
-abbrev pub request_of : (ℕ → ℕ → ℕ → Request) → NumberedPayload → Request
-request_of kind (numbered.Whole number from to) = kind number from to
-request_of kind numbered.Bad = Bad
-
 -- `S`: length (1); the octets
-unfoldable pub signed_request_at : List ℕ → ℕ → Request
+unfoldable pub signed_request_at : List ℕ → ℕ → Option Request
 signed_request_at input at =
     let from = at + 2 in
     let to = from + get_or input (at + 1) 0 in
-    whole input to (Signed from to)
+    whole input to (Some (Signed from to))
 
 -- `R`: m (2): entries in the lent table, at most 512; length (4); the text
-unfoldable pub list_request_at : List ℕ → ℕ → Request
+unfoldable pub list_request_at : List ℕ → ℕ → Option Request
 list_request_at input at =
     let m = be_at input (at + 1) 2 in
     let from = at + 7 in
     let to = from + be_at input (at + 3) 4 in
-    whole input to (up_to 512 m (request.List m from to))
+    whole input to (up_to 512 m (Some (request.List m from to)))
 
 -- the reading of a number: 0 as the crate, 1 by the Manual, and no other
-unfoldable pub reading_of : ℕ → MaybeReading
+unfoldable pub reading_of : ℕ → Option TemplateReading
 reading_of number =
-    pick (eqb number 0) (Named AsCrate) (pick (eqb number 1) (Named ByManual) NoReading)
+    pick (eqb number 0) (Some AsCrate) (pick (eqb number 1) (Some ByManual) None)
 
--- a request by a reading; without one it is bad
-abbrev pub read_by : MaybeReading → (TemplateReading → Request) → Request
-read_by (Named reading) request = request reading
-read_by NoReading request = Bad
+-- a request by a reading, if there is one
+abbrev pub read_by : Option TemplateReading → (TemplateReading → Request) → Option Request
+read_by (Some reading) request = Some (request reading)
+read_by None request = None
 
 -- `O`: reading (1); template number (2)
-unfoldable pub offsets_request_at : List ℕ → ℕ → Request
+unfoldable pub offsets_request_at : List ℕ → ℕ → Option Request
 offsets_request_at input at =
     let to = at + 4 in
     whole input to
     (read_by (reading_of (get_or input (at + 1) 0)) λ reading. Offsets reading (be_at input (at + 2) 2) to)
 
--- of a payload by the reading of a number
-abbrev pub when_where : ℕ → ℕ → ℕ → Request
-when_where number from to = read_by (reading_of number) λ reading. WhenWhere reading from to
+-- the request of each kind of payload: of a section's number, or by the reading of a number
+abbrev pub payload_kind : PayloadKind → ℕ → ℕ → ℕ → Option Request
+payload_kind payload.Fields number from to = Some (Fields number from to)
+payload_kind payload.WhenWhere number from to =
+    read_by (reading_of number) λ reading. WhenWhere reading from to
 
 -- the request of a kind octet at `at`: 87 is `W`, 80 is `P`, 67 is `C`, 77 is `M`, 70 is `F`, 83 is
--- `S`, 73 is `I`, 82 is `R`, 79 is `O`, 84 is `T`, another kind is bad
-abbrev pub of_kind : ℕ → List ℕ → ℕ → Request
+-- `S`, 73 is `I`, 82 is `R`, 79 is `O`, 84 is `T`, and there is none of another kind
+abbrev pub of_kind : ℕ → List ℕ → ℕ → Option Request
 of_kind kind input at =
     pick (eqb kind 87) (walk_request_at input at)
     (pick (eqb kind 80) (pull_request_at input at)
     (pick (eqb kind 67) (into_request_at Copy input at)
     (pick (eqb kind 77) (write_request_at input at)
-    (pick (eqb kind 70) (payload_request_at Fields input at)
+    (pick (eqb kind 70) (payload_request_at (payload_kind payload.Fields) input at)
     (pick (eqb kind 83) (signed_request_at input at)
     (pick (eqb kind 73) (into_request_at Inventory input at)
     (pick (eqb kind 82) (list_request_at input at)
     (pick (eqb kind 79) (offsets_request_at input at)
-    (pick (eqb kind 84) (payload_request_at when_where input at) Bad)))))))))
+    (pick (eqb kind 84) (payload_request_at (payload_kind payload.WhenWhere) input at) None)))))))))
 
--- the request at `at`; where the input has no octet, a bad one
-unfoldable pub request_at : List ℕ → ℕ → Request
-request_at input at = pick (leb (length input) at) Bad (of_kind (get_or input at 0) input at)
+-- the request at `at`; none where the input has no octet
+unfoldable pub request_at : List ℕ → ℕ → Option Request
+request_at input at = pick (leb (length input) at) None (of_kind (get_or input at 0) input at)
 
--- where the next request starts; a bad one ends the run, so at the input's end
-unfoldable pub place_after : List ℕ → Request → ℕ
-place_after input (Walk n m from to) = to
-place_after input (Pull from to) = to
-place_after input (Copy d from to) = to
-place_after input (Write w) = w.to
-place_after input (Fields number from to) = to
-place_after input (Signed from to) = to
-place_after input (Inventory d from to) = to
-place_after input (request.List m from to) = to
-place_after input (Offsets reading template to) = to
-place_after input (WhenWhere reading from to) = to
-place_after input Bad = length input
+-- where the next request starts; where there was none the run ends, so at the input's end
+unfoldable pub place_after : List ℕ → Option Request → ℕ
+place_after input (Some (Walk n m from to)) = to
+place_after input (Some (Pull from to)) = to
+place_after input (Some (Copy d from to)) = to
+place_after input (Some (Write w)) = w.to
+place_after input (Some (Fields number from to)) = to
+place_after input (Some (Signed from to)) = to
+place_after input (Some (Inventory d from to)) = to
+place_after input (Some (request.List m from to)) = to
+place_after input (Some (Offsets reading template to)) = to
+place_after input (Some (WhenWhere reading from to)) = to
+place_after input None = length input

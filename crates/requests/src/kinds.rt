@@ -1,13 +1,11 @@
 // One function for each kind of request: its numbers and octets, read off the input
 // (docs/REPLAY.md, the table of kinds). What is left of the input is tested before each sum, so
 // that none can wrap.
-ghost use Rattle.std.specs.Prelude.{◌≡◌, ℕ, ◌<◌, length};
+ghost use Rattle.std.specs.Prelude.{◌≡◌, ◌<◌, length};
 ghost use Rattle.requests.specs.Requests.{walk_request_at, pull_request_at, into_request_at};
-ghost use Rattle.requests.specs.Requests.{write_request_at, payload_request_at, signed_request_at};
-ghost use Rattle.requests.specs.Requests.{list_request_at, offsets_request_at, request_into};
-ghost use Rattle.requests.specs.Requests.{request_of, reading_of, when_where};
-ghost use Rattle.requests.specs.declared.Request.{Request};
-ghost use Rattle.requests.specs.declared.Request.TheVariants.{Copy, Inventory, Fields};
+ghost use Rattle.requests.specs.Requests.{into_kind, write_request_at, payload_request_at};
+ghost use Rattle.requests.specs.Requests.{payload_kind, signed_request_at, list_request_at};
+ghost use Rattle.requests.specs.Requests.{offsets_request_at, reading_of};
 
 use crate::numbers::{four_octets, two_octets};
 use crate::{Request, Writing};
@@ -60,147 +58,127 @@ const AS_CRATE: u8 = 0;
 // The one by the Manual.
 const BY_MANUAL: u8 = 1;
 
-// The file of a request that is answered into a destination of so many octets.
+// A place at which the input has an octet: where a request starts, with its kind.
 #[derive(Clone, Copy)]
-pub(crate) enum FileInto {
-    Whole { room: u32, from: usize, to: usize },
-    Bad,
+pub(crate) struct Start<'a> {
+    pub(crate) input: &'a [u8],
+    pub(crate) at: usize,
+    ghost inside: { at < length input.now },
 }
 
-// The payload of a request, and the number before it.
+// What a file is answered by into a destination.
 #[derive(Clone, Copy)]
-pub(crate) enum NumberedPayload {
-    Whole { number: u8, from: usize, to: usize },
-    Bad,
+pub(crate) enum IntoKind {
+    Copy,
+    Inventory,
 }
 
+// What is asked of a payload: its fields, by the number of its section, or when and where, by a
+// reading.
 #[derive(Clone, Copy)]
-pub(crate) enum MaybeReading {
-    Named(TemplateReading),
-    NoReading,
+pub(crate) enum PayloadKind {
+    Fields,
+    WhenWhere,
 }
 
 // Numbers (2); lines (2); length (4); the file.
-pub(crate) fn walk_request_at(input: &[u8], at: usize) -> Request
-    requires { at < length input.now }
-    ensures { result ≡ walk_request_at input.now at }
+pub(crate) fn walk_request_at(start: Start<'_>) -> Option<Request>
+    ensures { result ≡ walk_request_at start.entry.input.now start.entry.at }
 {
+    let Start { input, at } = start;
     if input.len() - at < WALK_HEAD {
-        return Request::Bad;
+        return None;
     }
     let from = at + WALK_HEAD;
     let numbers = two_octets(input, at + 1);
     let lines = two_octets(input, at + 3);
     let size = four_octets(input, at + 5) as usize;
     if input.len() - from < size {
-        return Request::Bad;
+        return None;
     }
     if MOST_NUMBERS < numbers {
-        return Request::Bad;
+        return None;
     }
     if MOST_LINES < lines {
-        return Request::Bad;
+        return None;
     }
-    Request::Walk {
+    Some(Request::Walk {
         numbers,
         lines,
         from,
         to: from + size,
-    }
+    })
 }
 
 // Length (4); the file.
-pub(crate) fn pull_request_at(input: &[u8], at: usize) -> Request
-    requires { at < length input.now }
-    ensures { result ≡ pull_request_at input.now at }
+pub(crate) fn pull_request_at(start: Start<'_>) -> Option<Request>
+    ensures { result ≡ pull_request_at start.entry.input.now start.entry.at }
 {
+    let Start { input, at } = start;
     if input.len() - at < PULL_HEAD {
-        return Request::Bad;
+        return None;
     }
     let from = at + PULL_HEAD;
     let size = four_octets(input, at + 1) as usize;
     if input.len() - from < size {
-        return Request::Bad;
+        return None;
     }
-    Request::Pull {
+    Some(Request::Pull {
         from,
         to: from + size,
-    }
-}
-
-pub(crate) fn copy_request_at(input: &[u8], at: usize) -> Request
-    requires { at < length input.now }
-    ensures { result ≡ into_request_at Copy input.now at }
-{
-    let file = file_into_at(input, at);
-    match file {
-        FileInto::Whole { room, from, to } => Request::Copy { room, from, to },
-        FileInto::Bad => Request::Bad,
-    }
-}
-
-pub(crate) fn inventory_request_at(input: &[u8], at: usize) -> Request
-    requires { at < length input.now }
-    ensures { result ≡ into_request_at Inventory input.now at }
-{
-    let file = file_into_at(input, at);
-    match file {
-        FileInto::Whole { room, from, to } => Request::Inventory { room, from, to },
-        FileInto::Bad => Request::Bad,
-    }
+    })
 }
 
 // Length of the destination (4); length (4); the file.
-fn file_into_at(input: &[u8], at: usize) -> FileInto
-    requires { at < length input.now }
-    ensures { (kind : ℕ → ℕ → ℕ → Request)
-        → request_into kind result ≡ into_request_at kind input.now at }
+pub(crate) fn into_request_at(kind: IntoKind, start: Start<'_>) -> Option<Request>
+    ensures { result ≡ into_request_at (into_kind kind) start.entry.input.now start.entry.at }
 {
+    let Start { input, at } = start;
     if input.len() - at < INTO_HEAD {
-        return FileInto::Bad;
+        return None;
     }
     let from = at + INTO_HEAD;
     let room = four_octets(input, at + 1);
     let octets = four_octets(input, at + 5) as usize;
     if input.len() - from < octets {
-        return FileInto::Bad;
+        return None;
     }
     if MOST_ROOM < room {
-        return FileInto::Bad;
+        return None;
     }
-    FileInto::Whole {
-        room,
-        from,
-        to: from + octets,
+    let to = from + octets;
+    match kind {
+        IntoKind::Copy => Some(Request::Copy { room, from, to }),
+        IntoKind::Inventory => Some(Request::Inventory { room, from, to }),
     }
 }
 
 // Discipline (1); reserved (1), reserved (1); sections of the plan (2); its rows; length (4); the
 // store; length of the destination (4).
-pub(crate) fn write_request_at(input: &[u8], at: usize) -> Request
-    requires { at < length input.now }
-    ensures { result ≡ write_request_at input.now at }
+pub(crate) fn write_request_at(start: Start<'_>) -> Option<Request>
+    ensures { result ≡ write_request_at start.entry.input.now start.entry.at }
 {
+    let Start { input, at } = start;
     if input.len() - at < WRITE_HEAD {
-        return Request::Bad;
+        return None;
     }
     let plan = at + WRITE_HEAD;
     let sections = two_octets(input, at + 4);
     let rows = sections as usize * ROW_SIZE;
     if input.len() - plan < rows + LENGTH_SIZE {
-        return Request::Bad;
+        return None;
     }
     let store = plan + rows + LENGTH_SIZE;
     let size = four_octets(input, plan + rows) as usize;
     if input.len() - store < size + LENGTH_SIZE {
-        return Request::Bad;
+        return None;
     }
     let end = store + size;
     let room = four_octets(input, end);
     if MOST_ROOM < room {
-        return Request::Bad;
+        return None;
     }
-    Request::Write(Writing {
+    Some(Request::Write(Writing {
         discipline: input[at + 1],
         first: input[at + 2],
         second: input[at + 3],
@@ -210,123 +188,103 @@ pub(crate) fn write_request_at(input: &[u8], at: usize) -> Request
         end,
         room,
         to: end + LENGTH_SIZE,
-    })
-}
-
-pub(crate) fn fields_request_at(input: &[u8], at: usize) -> Request
-    requires { at < length input.now }
-    ensures { result ≡ payload_request_at Fields input.now at }
-{
-    let payload = payload_at(input, at);
-    match payload {
-        NumberedPayload::Whole { number, from, to } => Request::Fields { number, from, to },
-        NumberedPayload::Bad => Request::Bad,
-    }
-}
-
-pub(crate) fn when_where_request_at(input: &[u8], at: usize) -> Request
-    requires { at < length input.now }
-    ensures { result ≡ payload_request_at when_where input.now at }
-{
-    let payload = payload_at(input, at);
-    let NumberedPayload::Whole { number, from, to } = payload else {
-        return Request::Bad;
-    };
-    let MaybeReading::Named(reading) = reading_of(number) else {
-        return Request::Bad;
-    };
-    Request::WhenWhere { reading, from, to }
+    }))
 }
 
 // Section number, or reading (1); length (4); the payload.
-fn payload_at(input: &[u8], at: usize) -> NumberedPayload
-    requires { at < length input.now }
-    ensures { (kind : ℕ → ℕ → ℕ → Request)
-        → request_of kind result ≡ payload_request_at kind input.now at }
+pub(crate) fn payload_request_at(kind: PayloadKind, start: Start<'_>) -> Option<Request>
+    ensures { result ≡ payload_request_at (payload_kind kind) start.entry.input.now start.entry.at }
 {
+    let Start { input, at } = start;
     if input.len() - at < PAYLOAD_HEAD {
-        return NumberedPayload::Bad;
+        return None;
     }
     let from = at + PAYLOAD_HEAD;
     let size = four_octets(input, at + 2) as usize;
     if input.len() - from < size {
-        return NumberedPayload::Bad;
+        return None;
     }
-    NumberedPayload::Whole {
-        number: input[at + 1],
-        from,
-        to: from + size,
+    let number = input[at + 1];
+    let to = from + size;
+    match kind {
+        PayloadKind::Fields => Some(Request::Fields { number, from, to }),
+        PayloadKind::WhenWhere => {
+            let Some(reading) = reading_of(number) else {
+                return None;
+            };
+            Some(Request::WhenWhere { reading, from, to })
+        }
     }
 }
 
 // Length (1); the octets.
-pub(crate) fn signed_request_at(input: &[u8], at: usize) -> Request
-    requires { at < length input.now }
-    ensures { result ≡ signed_request_at input.now at }
+pub(crate) fn signed_request_at(start: Start<'_>) -> Option<Request>
+    ensures { result ≡ signed_request_at start.entry.input.now start.entry.at }
 {
+    let Start { input, at } = start;
     if input.len() - at < SIGNED_HEAD {
-        return Request::Bad;
+        return None;
     }
     let from = at + SIGNED_HEAD;
     let size = input[at + 1] as usize;
     if input.len() - from < size {
-        return Request::Bad;
+        return None;
     }
-    Request::Signed {
+    Some(Request::Signed {
         from,
         to: from + size,
-    }
+    })
 }
 
 // Entries (2); length (4); the text.
-pub(crate) fn list_request_at(input: &[u8], at: usize) -> Request
-    requires { at < length input.now }
-    ensures { result ≡ list_request_at input.now at }
+pub(crate) fn list_request_at(start: Start<'_>) -> Option<Request>
+    ensures { result ≡ list_request_at start.entry.input.now start.entry.at }
 {
+    let Start { input, at } = start;
     if input.len() - at < LIST_HEAD {
-        return Request::Bad;
+        return None;
     }
     let from = at + LIST_HEAD;
     let room = two_octets(input, at + 1);
     let octets = four_octets(input, at + 3) as usize;
     if input.len() - from < octets {
-        return Request::Bad;
+        return None;
     }
     if MOST_ENTRIES < room {
-        return Request::Bad;
+        return None;
     }
-    Request::List {
+    Some(Request::List {
         room,
         from,
         to: from + octets,
-    }
+    })
 }
 
 // Reading (1); template number (2).
-pub(crate) fn offsets_request_at(input: &[u8], at: usize) -> Request
-    requires { at < length input.now }
-    ensures { result ≡ offsets_request_at input.now at }
+pub(crate) fn offsets_request_at(start: Start<'_>) -> Option<Request>
+    ensures { result ≡ offsets_request_at start.entry.input.now start.entry.at }
 {
+    let Start { input, at } = start;
     if input.len() - at < OFFSETS_HEAD {
-        return Request::Bad;
+        return None;
     }
-    let MaybeReading::Named(reading) = reading_of(input[at + 1]) else {
-        return Request::Bad;
+    let Some(reading) = reading_of(input[at + 1]) else {
+        return None;
     };
-    Request::Offsets {
+    Some(Request::Offsets {
         reading,
         template: two_octets(input, at + 2),
         to: at + OFFSETS_HEAD,
-    }
+    })
 }
 
 // The reading of templates that a number names.
-fn reading_of(number: u8) -> MaybeReading
+fn reading_of(number: u8) -> Option<TemplateReading>
     ensures { result ≡ reading_of number }
 {
     match number {
-        AS_CRATE => MaybeReading::Named(TemplateReading::AsCrate),
-        BY_MANUAL => MaybeReading::Named(TemplateReading::ByManual),
-        _ => MaybeReading::NoReading,
+        AS_CRATE => Some(TemplateReading::AsCrate),
+        BY_MANUAL => Some(TemplateReading::ByManual),
+        _ => None,
     }
 }

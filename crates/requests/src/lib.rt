@@ -9,8 +9,8 @@ ghost use Rattle.std.specs.Prelude.{◌≡◌};
 ghost use Rattle.requests.specs.Requests.{request_at};
 
 use kinds::{
-    copy_request_at, fields_request_at, inventory_request_at, list_request_at, offsets_request_at,
-    pull_request_at, signed_request_at, walk_request_at, when_where_request_at, write_request_at,
+    IntoKind, PayloadKind, Start, into_request_at, list_request_at, offsets_request_at,
+    payload_request_at, pull_request_at, signed_request_at, walk_request_at, write_request_at,
 };
 use products::TemplateReading;
 
@@ -88,9 +88,6 @@ pub enum Request {
         from: usize,
         to: usize,
     },
-    // Of another kind, of another reading, with a number over its limit, or cut by the end of the
-    // input: nothing after it can be told.
-    Bad,
 }
 
 // A message to be written: its plan and its store are octets of the input.
@@ -112,26 +109,28 @@ pub struct Writing {
     pub to: usize,
 }
 
-// The request that starts at octet `at`: a bad one if it is cut, over a limit or unknown, and where
-// the input has no such octet.
-pub fn request_at(input: &[u8], at: usize) -> Request
+// The request that starts at octet `at`: none where the input has no such octet, and where what
+// stands there is of another kind, of another reading, with a number over its limit, or cut by the
+// end of the input, so that nothing after it can be told.
+pub fn request_at(input: &[u8], at: usize) -> Option<Request>
     ensures { result ≡ request_at input.now at }
 {
     if input.len() <= at {
-        return Request::Bad;
+        return None;
     }
+    let start = Start { input, at };
     let kind = input[at];
     match kind {
-        WALK => walk_request_at(input, at),
-        PULL => pull_request_at(input, at),
-        COPY => copy_request_at(input, at),
-        WRITE => write_request_at(input, at),
-        FIELDS => fields_request_at(input, at),
-        SIGNED => signed_request_at(input, at),
-        INVENTORY => inventory_request_at(input, at),
-        LIST => list_request_at(input, at),
-        OFFSETS => offsets_request_at(input, at),
-        WHEN_WHERE => when_where_request_at(input, at),
-        _ => Request::Bad,
+        WALK => walk_request_at(start),
+        PULL => pull_request_at(start),
+        COPY => into_request_at(IntoKind::Copy, start),
+        WRITE => write_request_at(start),
+        FIELDS => payload_request_at(PayloadKind::Fields, start),
+        SIGNED => signed_request_at(start),
+        INVENTORY => into_request_at(IntoKind::Inventory, start),
+        LIST => list_request_at(start),
+        OFFSETS => offsets_request_at(start),
+        WHEN_WHERE => payload_request_at(PayloadKind::WhenWhere, start),
+        _ => None,
     }
 }

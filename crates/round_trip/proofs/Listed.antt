@@ -1,4 +1,5 @@
 -- The listing of a written message is the plan's sections, with section 0 before and section 8 after.
+use Rattle.std.specs.Prelude.{Some}
 use Prim.Native.Nat.{ℕ, suc, ◌+◌, ◌-◌, ◌≤◌, ◌<◌, ◌^◌}
 use native.Mathlib.Omega.{arith}
 use native.Mathlib.Nat.{add-zero, add_assoc, sub_self}
@@ -11,13 +12,11 @@ use lib.Seq.{get_or-append-add, get_or_at}
 use borrow.Author.Tests.{eqb-true, le-ltb, le-leb, lt-leb, ne_eqb}
 use Rattle.octets.specs.BigEndian.{be_at}
 use Rattle.sections.specs.Kinds.{least_payload_of, kind_of, kinds}
-use Rattle.sections.specs.declared.kinds.LeastOf.TheVariants.{Octets}
 use Rattle.framing.specs.Search.{says, starts_at, start_among, next_start}
 use Rattle.framing.specs.Framing.{section_at as section_at, indicator_at, end_at, is_cut, payload_at, header_at, message_at, read_at}
 use Rattle.framing.specs.Listing.{over, listing}
 use Rattle.framing.specs.declared.read.Section.{Section}
 use Rattle.framing.specs.Read.{Over}
-use Rattle.framing.specs.declared.search.Found.TheVariants.{At}
 use Rattle.framing.proofs.Listing.{listing_on, listing_next, listing_is}
 use Rattle.writer.specs.Plan.{Part, sections_size, total_of}
 use Rattle.writer.specs.Message.{digits, indicator_octets, section_octets, body_octets, message_octets}
@@ -64,10 +63,10 @@ end_there front =
     )
 
 -- the bit-map section has an octet of payload
-least_6 : (number : ℕ) {least : ℕ} → least_payload_of number ≡ Octets least → number ≡ 6 → 1 ≤ least
+least_6 : (number : ℕ) {least : ℕ} → least_payload_of number ≡ Some least → number ≡ 6 → 1 ≤ least
 unfolding least_payload_of kind_of kinds
 least_6 number {least} kind e =
-    let known : Octets 1 ≡ Octets least = rw e at kind in
+    let known : Some 1 ≡ Some least = rw e at kind in
     let same : 1 ≡ least = cc in
     omega arith
 
@@ -82,7 +81,7 @@ whole number len left fits bit_map_lem = go (eqb number 7) (eqb number 6) refl
     go false false e = rw (le-ltb left len fits)
 
 -- a section behind its header
-payload_there : (number least at octets left rest : ℕ) → least_payload_of number ≡ Octets least → least ≤ octets → octets + 5 ≤ left
+payload_there : (number least at octets left rest : ℕ) → least_payload_of number ≡ Some least → least ≤ octets → octets + 5 ≤ left
     → octets + 5 ≤ rest
     → payload_at (least_payload_of number) at number (octets + 5) left rest ≡ section_at number at (octets + 5) (rest - (octets + 5))
 unfolding payload_at
@@ -169,7 +168,7 @@ body_listed store front (part ∷ more) (one head tail) =
     rw (listing_next file (length front) rest, section_there store front later part head rest (omega arith), left, after)
 
 -- a message starts at the file's start
-starts_there : (file : List ℕ) → starts_at file 0 ≡ true → 0 < length file → next_start file 0 ≡ At 0
+starts_there : (file : List ℕ) → starts_at file 0 ≡ true → 0 < length file → next_start file 0 ≡ Some 0
 unfolding next_start start_among
 starts_there file starts some =
     let more : length file - 0 ≡ suc (length file - 1) = omega arith in

@@ -1,5 +1,6 @@
 -- A plan is one message exactly when the order of a whole list of numbers finds 0, the plan's and 8 clean, and no 8 stands in the plan
 -- itself: with one, the list could be two messages.
+use Rattle.std.specs.Prelude.{Ok}
 use Prim.Native.Nat.{ℕ, zero, suc, ◌+◌}
 use native.Mathlib.Omega.{arith}
 use mathlib.Core.Path.{◌≡◌, refl, ◌∙◌}
@@ -10,11 +11,11 @@ use Rattle.order.specs.declared.Order.{Order}
 use Rattle.order.specs.declared.Order.TheVariants.{AfterIndicator}
 use Rattle.order.specs.declared.Judged.{Judged}
 use Rattle.order.specs.declared.Judged.TheVariants.{Fits, Closes, Misplaced, NoGrid}
-use Rattle.order.specs.declared.Verdict.TheVariants.{Clean}
 use Rattle.order.proofs.Laws.{fits_below, closes_only}
 use Rattle.writer.specs.Plan.{Part}
 use Rattle.round_trip.specs.ReadBack.{numbers_of}
 use Rattle.round_trip.specs.Faults.{AtNone, Reaches, arrived, on, EndsAfter, OneMessage}
+use Rattle.order.specs.declared.Disorder.TheVariants.{Misplaced, NoGrid}
 
 -- a section 8 in a plan
 abbrev pub IsEnd : Part → Type 0
@@ -22,7 +23,7 @@ IsEnd part = part.number ≡ 8
 
 -- the numbers and an 8, after what was read last
 clean : (order last : Order) (from : ℕ) (parts : List Part) → Reaches order parts last → judged last 8 ≡ Closes
-    → order_from order from (numbers_of parts ++ (8 ∷ [])) ≡ Clean
+    → order_from order from (numbers_of parts ++ (8 ∷ [])) ≡ Ok tt
 unfolding order_from is_between
 clean order last from [] arrived closed = rw closed
 clean order last from (part ∷ more) (on {next} fits rest) closed = rw fits (clean next last (from + 1) more rest closed)
@@ -32,12 +33,12 @@ no_end [] arrived k inside end = omega arith
 no_end (part ∷ more) (on {order} fits rest) zero inside end = let below = fits_below order part.number fits in omega arith
 no_end (part ∷ more) (on fits rest) (suc k) inside end = no_end more rest k (omega arith) end
 
-ends : (order : Order) (from : ℕ) (parts : List Part) → AtNone IsEnd parts → order_from order from (numbers_of parts ++ (8 ∷ [])) ≡ Clean
+ends : (order : Order) (from : ℕ) (parts : List Part) → AtNone IsEnd parts → order_from order from (numbers_of parts ++ (8 ∷ [])) ≡ Ok tt
     → EndsAfter order parts
 unfolding order_from
 ends order from [] none e = go (judged order 8) refl e
   where
-    go : (w : Judged) → judged order 8 ≡ w → then_judged w from (λ next. order_from next (from + 1) []) ≡ Clean → EndsAfter order []
+    go : (w : Judged) → judged order 8 ≡ w → then_judged w from (λ next. order_from next (from + 1) []) ≡ Ok tt → EndsAfter order []
     go (Fits next) w e = absurd (let below = fits_below order 8 w in omega arith)
     go Closes w e = record { last = order; ordered = arrived; closed = w }
     go Misplaced w e = absurd (let z : ◌≡◌ {A = ℕ} 0 1 = cc in omega arith)
@@ -46,8 +47,8 @@ ends order from (part ∷ more) none e =
     go (judged order part.number) refl e (λ next. ends next (from + 1) more (λ k inside. none (suc k) (omega arith)))
   where
     go : (w : Judged) → judged order part.number ≡ w
-        → then_judged w from (λ next. order_from next (from + 1) (numbers_of more ++ (8 ∷ []))) ≡ Clean
-        → ((next : Order) → order_from next (from + 1) (numbers_of more ++ (8 ∷ [])) ≡ Clean → EndsAfter next more)
+        → then_judged w from (λ next. order_from next (from + 1) (numbers_of more ++ (8 ∷ []))) ≡ Ok tt
+        → ((next : Order) → order_from next (from + 1) (numbers_of more ++ (8 ∷ [])) ≡ Ok tt → EndsAfter next more)
         → EndsAfter order (part ∷ more)
     go (Fits next) w e ih = let m = ih next e in record { last = m.last; ordered = on w m.ordered; closed = m.closed }
     go Closes w e ih = absurd (none 0 (omega arith) (closes_only order part.number w).1)
@@ -60,7 +61,7 @@ unfolding order_of order_from judged
 from_0 parts = refl
 
 pub one_message : (parts : List Part)
-    → Iff (OneMessage parts) ((order_of (0 ∷ (numbers_of parts ++ (8 ∷ []))) ≡ Clean) × AtNone IsEnd parts)
+    → Iff (OneMessage parts) ((order_of (0 ∷ (numbers_of parts ++ (8 ∷ []))) ≡ Ok tt) × AtNone IsEnd parts)
 one_message parts = (
   (λ m. (from_0 parts ∙ clean AfterIndicator m.last 1 parts m.ordered m.closed, no_end parts m.ordered)),
   λ h. ends AfterIndicator 1 parts h.1 (rw (from_0 parts) at h.0),

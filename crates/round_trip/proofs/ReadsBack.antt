@@ -1,4 +1,5 @@
 -- What is written by an accepted plan reads back, and nothing past it is touched; a refusal touches nothing.
+use Rattle.std.specs.Prelude.{Some, Result, Ok, Err}
 use Prim.Native.Nat.{ℕ, ◌+◌, ◌≤◌, ◌<◌, ◌^◌}
 use native.Mathlib.Omega.{arith}
 use mathlib.Core.Path.{◌≡◌, refl, sym, ap, ◌∙◌}
@@ -7,25 +8,24 @@ use lib.ListN.{length, take, drop}
 use lib.Seq.{take_at, drop_at}
 use borrow.Author.Tests.{le-ltb}
 use Rattle.sections.specs.Indicator.{indicator_of}
-use Rattle.sections.specs.declared.indicator.MaybeIndicator.TheVariants.{Fields}
 use Rattle.framing.specs.Listing.{over, listing}
 use Rattle.index.specs.declared.bounds.Room.{Room}
 use Rattle.index.specs.Walk.{walked}
 use Rattle.writer.specs.Plan.{Part, parts_of, sections_size, total_of, judged_plan}
 use Rattle.writer.specs.Message.{indicator_octets, body_octets, message_octets}
 use Rattle.writer.specs.Write.{dest_of, write_of}
-use Rattle.writer.specs.declared.Written.{Written}
-use Rattle.writer.specs.declared.Written.TheVariants.{Whole, TooManySections, NotOneMessage, OutsideStore, PayloadSize, NoRoom}
 use Rattle.writer.proofs.Checks.{Accepted, accepted, all_sound}
 use Rattle.writer.proofs.Lengths.{length_indicator, length_message}
 use Rattle.round_trip.specs.ReadBack.{lines_in, message_sections, WalksClean, ReadsBack}
 use Rattle.round_trip.proofs.Listed.{to_end_lem, total_there, message_listed}
 use Rattle.round_trip.proofs.Payloads.{payloads, numbers_from}
 use Rattle.round_trip.proofs.Walked.{clean_message}
+use Rattle.writer.specs.declared.WriteRefusal.TheVariants.{TooManySections, NotOneMessage, OutsideStore, PayloadSize, NoRoom}
+use Rattle.writer.specs.declared.WriteRefusal.{WriteRefusal}
 
 -- what a section 0 says
 fields : (discipline reserved₁ reserved₂ total : ℕ) → total < 256 ^ 8
-    → indicator_of (indicator_octets discipline reserved₁ reserved₂ total) ≡ Fields (record { discipline = discipline; total = total })
+    → indicator_of (indicator_octets discipline reserved₁ reserved₂ total) ≡ Some (record { discipline = discipline; total = total })
 unfolding indicator_of indicator_octets
 fields discipline reserved₁ reserved₂ total small =
     let sixteen = length_indicator discipline reserved₁ reserved₂ total in
@@ -43,7 +43,7 @@ module _ (discipline reserved₁ reserved₂ : ℕ) (parts : List Part) (store :
   small : total_of parts ≤ 1099511627776
   small = omega (arith, a.whole, a.not_over)
 
-  decoded : indicator_of (take 16 file) ≡ Fields (record { discipline = discipline; total = total })
+  decoded : indicator_of (take 16 file) ≡ Some (record { discipline = discipline; total = total })
   unfolding message_octets
   decoded =
       let sum = a.whole in
@@ -76,7 +76,7 @@ module _ (discipline reserved₁ reserved₂ : ℕ) (parts : List Part) (store :
       }
 
 module _ (discipline reserved₁ reserved₂ : ℕ) (plan store dest : List ℕ) where
-  module _ (total : ℕ) (e : (write_of discipline reserved₁ reserved₂ plan store dest).answer ≡ Whole total) where
+  module _ (total : ℕ) (e : (write_of discipline reserved₁ reserved₂ plan store dest).answer ≡ Ok total) where
     has : Accepted (parts_of plan) (length store) (length dest) total
     unfolding write_of
     has = accepted (parts_of plan) (length store) (length dest) total e
@@ -103,16 +103,16 @@ module _ (discipline reserved₁ reserved₂ : ℕ) (plan store dest : List ℕ)
         rw holds (drop_at octets (drop total dest) total back.long)
 
   -- after a refusal all are
-  pub refused_unchanged : ((total : ℕ) → (write_of discipline reserved₁ reserved₂ plan store dest).answer ≡ Whole total → ⊥)
+  pub refused_unchanged : ((total : ℕ) → (write_of discipline reserved₁ reserved₂ plan store dest).answer ≡ Ok total → ⊥)
       → (write_of discipline reserved₁ reserved₂ plan store dest).dest ≡ dest
   unfolding write_of dest_of
   refused_unchanged refused = go (judged_plan (parts_of plan) (length store) (length dest)) refused
     where
-      go : (w : Written) → ((total : ℕ) → w ≡ Whole total → ⊥)
+      go : (w : Result ℕ WriteRefusal) → ((total : ℕ) → w ≡ Ok total → ⊥)
           → dest_of w (message_octets discipline reserved₁ reserved₂ (parts_of plan) store) dest ≡ dest
-      go (Whole total) none = absurd (none total refl)
-      go TooManySections none = refl
-      go (NotOneMessage at) none = refl
-      go (OutsideStore at) none = refl
-      go (PayloadSize at) none = refl
-      go NoRoom none = refl
+      go (Ok total) none = absurd (none total refl)
+      go (Err TooManySections) none = refl
+      go (Err (NotOneMessage at)) none = refl
+      go (Err (OutsideStore at)) none = refl
+      go (Err (PayloadSize at)) none = refl
+      go (Err NoRoom) none = refl

@@ -1,4 +1,5 @@
 -- The sample A of 01 by a plan, and a plan for each refusal, by computing.
+use Rattle.std.specs.Prelude.{Result, Ok, Err}
 use Prim.Native.Nat.{ℕ, ◌+◌}
 use mathlib.Core.Path.{◌≡◌, refl}
 use mathlib.Core.List.{List, [], ◌∷◌, ◌++◌}
@@ -7,8 +8,8 @@ use Rattle.sections.specs.Kinds.{least_payload_of, kind_of, kinds}
 use Rattle.order.specs.Order.{judged}
 use Rattle.writer.specs.Plan.{plan_place, parts_of, misfit_from, first_at, is_outside, is_wrong_size, sections_size, judged_plan}
 use Rattle.writer.specs.Message.{digits, indicator_octets, section_octets, body_octets, message_octets}
-use Rattle.writer.specs.declared.Written.{Written}
-use Rattle.writer.specs.declared.Written.TheVariants.{Whole, TooManySections, NotOneMessage, OutsideStore, PayloadSize, NoRoom}
+use Rattle.writer.specs.declared.WriteRefusal.TheVariants.{TooManySections, NotOneMessage, OutsideStore, PayloadSize, NoRoom}
+use Rattle.writer.specs.declared.WriteRefusal.{WriteRefusal}
 
 -- a section of A: its number, and so many octets 9
 abbrev least : ℕ → ℕ → List ℕ
@@ -28,17 +29,17 @@ unfolding message_octets indicator_octets body_octets section_octets digits part
 a_written = refl
 
 -- what is said of a plan with a store of 16 octets and a destination of so many
-abbrev said : List ℕ → ℕ → Written
+abbrev said : List ℕ → ℕ → Result ℕ WriteRefusal
 said plan room = judged_plan (parts_of plan) 16 room
 
-pub answers : (said plan_a 86 ≡ Whole 86) × (said plan_a 85 ≡ NoRoom)
+pub answers : (said plan_a 86 ≡ Ok 86) × (said plan_a 85 ≡ Err NoRoom)
     -- no section at all; a 4 after 1; the end after 3; an 8
-    × (said [] 86 ≡ NotOneMessage (plan_place 0)) × (said (1 ∷ 0 ∷ 16 ∷ 4 ∷ 0 ∷ 4 ∷ []) 86 ≡ NotOneMessage (plan_place 1))
-    × (said (1 ∷ 0 ∷ 16 ∷ 3 ∷ 0 ∷ 9 ∷ []) 86 ≡ NotOneMessage (plan_place 2)) × (said (8 ∷ 0 ∷ 16 ∷ []) 86 ≡ NotOneMessage (plan_place 0))
+    × (said [] 86 ≡ Err (NotOneMessage (plan_place 0))) × (said (1 ∷ 0 ∷ 16 ∷ 4 ∷ 0 ∷ 4 ∷ []) 86 ≡ Err (NotOneMessage (plan_place 1)))
+    × (said (1 ∷ 0 ∷ 16 ∷ 3 ∷ 0 ∷ 9 ∷ []) 86 ≡ Err (NotOneMessage (plan_place 2))) × (said (8 ∷ 0 ∷ 16 ∷ []) 86 ≡ Err (NotOneMessage (plan_place 0)))
     -- a part outside at place 1 before a payload too short at place 0, and that alone
-    × (said (1 ∷ 0 ∷ 15 ∷ 3 ∷ 8 ∷ 9 ∷ 4 ∷ 1 ∷ 4 ∷ 5 ∷ 2 ∷ 6 ∷ 6 ∷ 15 ∷ 1 ∷ 7 ∷ 16 ∷ 0 ∷ []) 0 ≡ OutsideStore (plan_place 1))
-    × (said (1 ∷ 0 ∷ 15 ∷ 3 ∷ 7 ∷ 9 ∷ 4 ∷ 1 ∷ 4 ∷ 5 ∷ 2 ∷ 6 ∷ 6 ∷ 15 ∷ 1 ∷ 7 ∷ 16 ∷ 0 ∷ []) 0 ≡ PayloadSize (plan_place 0))
+    × (said (1 ∷ 0 ∷ 15 ∷ 3 ∷ 8 ∷ 9 ∷ 4 ∷ 1 ∷ 4 ∷ 5 ∷ 2 ∷ 6 ∷ 6 ∷ 15 ∷ 1 ∷ 7 ∷ 16 ∷ 0 ∷ []) 0 ≡ Err (OutsideStore (plan_place 1)))
+    × (said (1 ∷ 0 ∷ 15 ∷ 3 ∷ 7 ∷ 9 ∷ 4 ∷ 1 ∷ 4 ∷ 5 ∷ 2 ∷ 6 ∷ 6 ∷ 15 ∷ 1 ∷ 7 ∷ 16 ∷ 0 ∷ []) 0 ≡ Err (PayloadSize (plan_place 0)))
     -- 4,097 sections, whatever they are
-    × (said (replicate 12291 9) 86 ≡ TooManySections)
+    × (said (replicate 12291 9) 86 ≡ Err TooManySections)
 unfolding judged_plan misfit_from first_at is_outside is_wrong_size judged least_payload_of kind_of kinds parts_of sections_size
 answers = (refl, refl, refl, refl, refl, refl, refl, refl, refl)

@@ -1,4 +1,5 @@
 -- The walk of a written message's sections is clean, with one message.
+use Rattle.std.specs.Prelude.{None, Ok}
 use Prim.Native.Nat.{ℕ, ◌+◌, ◌≤◌, ◌<◌}
 use native.Mathlib.Omega.{arith}
 use native.Mathlib.Nat.{zero-add}
@@ -28,11 +29,10 @@ use Rattle.order.proofs.Laws.{ReachedBy, fits_number, fits_below, closes_only, c
 use Rattle.framing.specs.Listing.{over}
 use Rattle.framing.specs.declared.read.Section.{Section}
 use Rattle.index.specs.Lines.{place, with_submessage, line_of}
-use Rattle.index.specs.declared.line.MessageEnd.TheVariants.{GoesOn}
 use Rattle.index.specs.declared.line.Line.{Line}
 use Rattle.index.specs.declared.bounds.Room.{Room}
 use Rattle.index.specs.Walk.{Reached, at_start, passes, here, comes_in_force, fitted, closing, by_order, judgement, concluded, walked_from}
-use Rattle.writer.specs.Plan.{Part, no_fault, misfit_from, misfit}
+use Rattle.writer.specs.Plan.{Part, misfit_from, misfit}
 use Rattle.writer.proofs.Checks.{misfit_passed, misfit_closed}
 use Rattle.round_trip.specs.ReadBack.{listed_as, lines_in, WalksClean}
 use Rattle.round_trip.proofs.Listed.{to_end}
@@ -111,7 +111,7 @@ goes room r s next fits rows lines = go (completes r.order s.number) refl
                 order = next;
                 force = comes_in_force r.file (with_submessage r.force (r.force.submessage + 1)) s (place r.sections);
               };
-          told = line_of r.force GoesOn ∷ [];
+          told = line_of r.force None ∷ [];
           passed = rw (e, lt-leb room.lines r.lines (omega arith), starts, lt-leb room.rows r.sections rows);
           sections = refl;
           count = rw one;
@@ -165,7 +165,7 @@ unfolding due
 due_data = refl
 
 -- the sections of a plan that is in order, from anywhere inside a message
-clean_from : (room : Room) (r : Reached) (from at : ℕ) (parts : List Part) → misfit_from r.order from parts ≡ no_fault
+clean_from : (room : Room) (r : Reached) (from at : ℕ) (parts : List Part) → misfit_from r.order from parts ≡ Ok tt
     → r.sections + (1 + length parts) ≤ room.rows → r.lines + (due r.order + lines_in parts) ≤ room.lines
     → WalksClean (walked_from room r (to_end at parts) over) (to_end at parts) (due r.order + lines_in parts)
 unfolding to_end lines_in
@@ -190,7 +190,7 @@ clean_from room r from at (part ∷ more) passed rows lines =
     (subst (λ (n : ℕ). WalksClean (walked_from room g.next later over) later (n + lines_in more)) after rest)
 
 -- a message from its section 0 on
-pub clean_message : (room : Room) (file : List ℕ) (parts : List Part) → misfit parts ≡ no_fault → 2 + length parts ≤ room.rows
+pub clean_message : (room : Room) (file : List ℕ) (parts : List Part) → misfit parts ≡ Ok tt → 2 + length parts ≤ room.rows
     → lines_in parts ≤ room.lines
     → WalksClean (walked_from room (at_start file) (listed_as 0 0 16 ∷ to_end 16 parts) over) (listed_as 0 0 16 ∷ to_end 16 parts) (lines_in parts)
 unfolding due judged

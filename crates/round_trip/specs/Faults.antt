@@ -1,7 +1,6 @@
 -- What is at fault in a plan, in the words of 01's column "Given exactly when" (refusals 15 to 19).
-use Rattle.std.specs.Prelude.{ℕ, ◌+◌, ◌≤◌, ◌<◌, ◌≡◌, List, [], ◌∷◌, ◌⊎◌, length, take, get_or}
+use Rattle.std.specs.Prelude.{ℕ, ◌+◌, ◌≤◌, ◌<◌, ◌≡◌, List, [], ◌∷◌, ◌⊎◌, length, take, get_or, Some}
 use Rattle.sections.specs.Kinds.{least_payload_of}
-use Rattle.sections.specs.declared.kinds.LeastOf.TheVariants.{Octets}
 use Rattle.order.specs.Order.{judged}
 use Rattle.order.specs.declared.Order.{Order}
 use Rattle.order.specs.declared.Order.TheVariants.{AfterIndicator}
@@ -68,7 +67,7 @@ Outside store part = store < part.offset + part.length
 -- 18: a payload under its least
 pub record UnderItsLeast (part : Part) : Type 0 where
   pub least : ℕ
-  pub of_kind : least_payload_of part.number ≡ Octets least
+  pub of_kind : least_payload_of part.number ≡ Some least
   pub under : part.length < least
 
 -- or over the most that a payload may have

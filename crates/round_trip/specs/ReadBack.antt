@@ -1,11 +1,10 @@
 -- What it is for a written message to read back (01, "The writer", "Framing", "Order").
-use Rattle.std.specs.Prelude.{ℕ, ◌+◌, ◌-◌, ◌≤◌, ◌≡◌, List, [], ◌∷◌, ◌++◌, map, eqb, length, take, drop}
+use Rattle.std.specs.Prelude.{ℕ, ◌+◌, ◌-◌, ◌≤◌, ◌≡◌, List, [], ◌∷◌, ◌++◌, map, eqb}
+use Rattle.std.specs.Prelude.{length, take, drop, Some, Ok}
 use Rattle.octets.specs.Words.{pick}
 use Rattle.sections.specs.Indicator.{indicator_of}
-use Rattle.sections.specs.declared.indicator.MaybeIndicator.TheVariants.{Fields}
 use Rattle.framing.specs.Listing.{over, listing}
 use Rattle.framing.specs.declared.read.Section.{Section}
-use Rattle.index.specs.declared.refusal.Outcome.TheVariants as outcome
 use Rattle.index.specs.declared.bounds.Room.{Room}
 use Rattle.index.specs.Walk.{Told, walked}
 use Rattle.writer.specs.Plan.{Part, sections_size}
@@ -48,7 +47,7 @@ pub record WalksClean (told : Told) (sections : List Section) (lines : ℕ) : Ty
   pub all_sections : told.sections ≡ sections
   pub all_lines : length told.lines ≡ lines
   pub one_message : told.messages ≡ 1
-  pub no_refusal : told.outcome ≡ outcome.Clean
+  pub no_refusal : told.outcome ≡ Ok tt
 
 -- a file is the message of a plan
 pub record ReadsBack (discipline : ℕ) (parts : List Part) (store file : List ℕ) (total : ℕ)
@@ -57,7 +56,7 @@ pub record ReadsBack (discipline : ℕ) (parts : List Part) (store file : List �
   pub long : length file ≡ total
   -- its section 0 says the plan's discipline and that length
   pub decoded : indicator_of (take 16 file)
-      ≡ Fields (record { discipline = discipline; total = total })
+      ≡ Some (record { discipline = discipline; total = total })
   -- its listing is the plan's sections, at their offsets and with their lengths, and then the input
   -- is over
   pub listed : listing file ≡ record { sections = message_sections parts; ending = over }

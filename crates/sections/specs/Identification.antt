@@ -1,19 +1,15 @@
--- The fields of section 1, octets of the payload from 0 (01, "Fields").
-use Rattle.std.specs.Prelude.{ℕ, List, ltb, length, get_or}
+-- The fields of section 1, octets of the payload from 0 (01, "Some").
+use Rattle.std.specs.Prelude.{ℕ, List, ltb, length, get_or, Option, Some, None}
 use Rattle.octets.specs.Words.{pick}
 use Rattle.octets.specs.BigEndian.{be_at}
 use Rattle.sections.specs.Kinds.{least_identification}
-use Rattle.sections.specs.declared.identification.MaybeIdentification.{MaybeIdentification}
-use Rattle.sections.specs.declared.identification.MaybeIdentification.TheVariants.{
-  Fields,
-  NoIdentification,
-}
+use Rattle.sections.specs.declared.identification.Identification.{Identification}
 
 -- none under the least payload; the time is not checked
-unfoldable pub identification_of : List ℕ → MaybeIdentification
+unfoldable pub identification_of : List ℕ → Option Identification
 identification_of s =
-    pick (ltb (length s) least_identification) NoIdentification
-    (Fields
+    pick (ltb (length s) least_identification) None
+    (Some
     (record {
       centre = be_at s 0 2;
       subcentre = be_at s 2 2;

@@ -1,16 +1,10 @@
--- The nine section kinds (01, "Framing" and "Values octets and the public copy"; the Manual's
+-- The nine section kinds (01, "Framing" and "(Option ℕ) octets and the public copy"; the Manual's
 -- names). A size or a number of the format stands here, and other definitions cite it by its name.
-use Rattle.std.specs.Prelude.{ℕ, List, [], ◌∷◌, eqb}
+use Rattle.std.specs.Prelude.{ℕ, List, [], ◌∷◌, eqb, Option, Some, None}
 use Rattle.octets.specs.Words.{pick}
 use Rattle.sections.specs.declared.kinds.Extent.{Extent}
 use Rattle.sections.specs.declared.kinds.Extent.TheVariants.{WholeSize, LeastPayload}
-use Rattle.sections.specs.declared.kinds.Values.{Values}
-use Rattle.sections.specs.declared.kinds.Values.TheVariants.{FromOctet, Nowhere}
 use Rattle.sections.specs.declared.kinds.Kind.{Kind}
-use Rattle.sections.specs.declared.kinds.MaybeKind.{MaybeKind}
-use Rattle.sections.specs.declared.kinds.MaybeKind.TheVariants.{Known, Unknown}
-use Rattle.sections.specs.declared.kinds.LeastOf.{LeastOf}
-use Rattle.sections.specs.declared.kinds.LeastOf.TheVariants.{Octets, NoHeader}
 
 -- the octets of a header: a length of four, and a number
 abbrev pub header_size : ℕ
@@ -53,44 +47,44 @@ abbrev pub end_mark : List ℕ
 end_mark = 55 ∷ 55 ∷ 55 ∷ 55 ∷ []
 
 -- a row: number, size, and the octet from which on a section carries values, counted from 1
-abbrev pub kind : ℕ → Extent → Values → Kind
+abbrev pub kind : ℕ → Extent → Option ℕ → Kind
 kind number extent values = record { number = number; extent = extent; values = values }
 
 -- 0, the indicator section: no header
 abbrev pub indicator : Kind
-indicator = kind 0 (WholeSize indicator_size) Nowhere
+indicator = kind 0 (WholeSize indicator_size) None
 
 -- 1, the identification section
 abbrev pub identification : Kind
-identification = kind 1 (LeastPayload least_identification) Nowhere
+identification = kind 1 (LeastPayload least_identification) None
 
 -- 2, the local use section
 abbrev pub local_use : Kind
-local_use = kind 2 (LeastPayload 0) (FromOctet 6)
+local_use = kind 2 (LeastPayload 0) (Some 6)
 
 -- 3, the grid definition section
 abbrev pub grid_definition : Kind
-grid_definition = kind 3 (LeastPayload least_grid) Nowhere
+grid_definition = kind 3 (LeastPayload least_grid) None
 
 -- 4, the product definition section
 abbrev pub prod_definition : Kind
-prod_definition = kind 4 (LeastPayload least_product) Nowhere
+prod_definition = kind 4 (LeastPayload least_product) None
 
 -- 5, the data representation section: its first 11 octets are no values
 abbrev pub repr_definition : Kind
-repr_definition = kind 5 (LeastPayload least_representation) (FromOctet 12)
+repr_definition = kind 5 (LeastPayload least_representation) (Some 12)
 
 -- 6, the bit-map section: its first 6 octets are no values
 abbrev pub bit_map : Kind
-bit_map = kind 6 (LeastPayload least_bit_map) (FromOctet 7)
+bit_map = kind 6 (LeastPayload least_bit_map) (Some 7)
 
 -- 7, the data section
 abbrev pub data_section : Kind
-data_section = kind 7 (LeastPayload 0) (FromOctet 6)
+data_section = kind 7 (LeastPayload 0) (Some 6)
 
 -- 8, the end section: no header
 abbrev pub end_section : Kind
-end_section = kind 8 (WholeSize end_size) Nowhere
+end_section = kind 8 (WholeSize end_size) None
 
 -- all of them
 unfoldable pub kinds : List Kind
@@ -99,32 +93,32 @@ kinds =
     ∷ bit_map ∷ data_section ∷ end_section ∷ []
 
 -- the kind of a list that has the number
-abbrev pub kind_among : ℕ → List Kind → MaybeKind
-kind_among n [] = Unknown
-kind_among n (k ∷ more) = let later = kind_among n more in pick (eqb n k.number) (Known k) later
+abbrev pub kind_among : ℕ → List Kind → Option Kind
+kind_among n [] = None
+kind_among n (k ∷ more) = let later = kind_among n more in pick (eqb n k.number) (Some k) later
 
 -- the kind that has the number
-unfoldable pub kind_of : ℕ → MaybeKind
+unfoldable pub kind_of : ℕ → Option Kind
 kind_of n = kind_among n kinds
 
 -- the least payload of a size, if there is a header
-abbrev pub least_of : Extent → LeastOf
-least_of (LeastPayload octets) = Octets octets
-least_of (WholeSize octets) = NoHeader
+abbrev pub least_of : Extent → Option ℕ
+least_of (LeastPayload octets) = Some octets
+least_of (WholeSize octets) = None
 
 -- the same of what may be a kind
-abbrev pub least_in : MaybeKind → LeastOf
-least_in (Known k) = least_of k.extent
-least_in Unknown = NoHeader
+abbrev pub least_in : Option Kind → Option ℕ
+least_in (Some k) = least_of k.extent
+least_in None = None
 
 -- the least payload of the sections with the number, if they have a header
-unfoldable pub least_payload_of : ℕ → LeastOf
+unfoldable pub least_payload_of : ℕ → Option ℕ
 least_payload_of n = least_in (kind_of n)
 
-abbrev pub values_in : MaybeKind → Values
-values_in (Known k) = k.values
-values_in Unknown = Nowhere
+abbrev pub values_in : Option Kind → Option ℕ
+values_in (Some k) = k.values
+values_in None = None
 
 -- where the sections with the number carry values
-unfoldable pub values_of : ℕ → Values
+unfoldable pub values_of : ℕ → Option ℕ
 values_of n = values_in (kind_of n)

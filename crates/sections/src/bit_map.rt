@@ -1,20 +1,13 @@
 // Section 6, the bit-map section.
 ghost use Rattle.std.specs.Prelude.{◌≡◌};
-ghost use Rattle.sections.specs.Kinds.{bit_map};
 ghost use Rattle.sections.specs.BitMap.{bit_map_of};
 
-use crate::kinds::{Extent, Kind, Values};
+use crate::kinds::{Extent, Kind};
 
 #[derive(Clone, Copy)]
 pub struct BitMap {
     // Code table 6.0
     pub indicator: u8,
-}
-
-#[derive(Clone, Copy)]
-pub enum MaybeBitMap {
-    Fields(BitMap),
-    NoBitMap,
 }
 
 impl BitMap {
@@ -24,24 +17,20 @@ impl BitMap {
 
     pub const FIRST_VALUES_OCTET: usize = 7;
 
-    pub(crate) fn kind() -> Kind
-        ensures { result ≡ bit_map }
-    {
-        Kind {
-            number: BitMap::NUMBER,
-            extent: Extent::LeastPayload(BitMap::LEAST_PAYLOAD),
-            values: Values::FromOctet(BitMap::FIRST_VALUES_OCTET),
-        }
-    }
+    pub(crate) const KIND: Kind = Kind {
+        number: BitMap::NUMBER,
+        extent: Extent::LeastPayload(BitMap::LEAST_PAYLOAD),
+        values: Some(BitMap::FIRST_VALUES_OCTET),
+    };
 
     // The indicator of section 6; none without octets.
-    pub fn from_payload(payload: &[u8]) -> MaybeBitMap
+    pub fn from_payload(payload: &[u8]) -> Option<BitMap>
         ensures { result ≡ bit_map_of payload.now }
     {
         if payload.len() < BitMap::LEAST_PAYLOAD {
-            return MaybeBitMap::NoBitMap;
+            return None;
         }
-        MaybeBitMap::Fields(BitMap {
+        Some(BitMap {
             indicator: payload[0],
         })
     }

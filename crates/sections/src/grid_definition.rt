@@ -1,9 +1,8 @@
 // Section 3, the grid definition section.
 ghost use Rattle.std.specs.Prelude.{◌≡◌};
-ghost use Rattle.sections.specs.Kinds.{grid_definition};
 ghost use Rattle.sections.specs.GridDefinition.{grid_definition_of};
 
-use crate::kinds::{Extent, Kind, Values};
+use crate::kinds::{Extent, Kind};
 use octets::{be16, be32};
 
 #[derive(Clone, Copy)]
@@ -14,35 +13,25 @@ pub struct GridDefinition {
     pub template: u16,
 }
 
-#[derive(Clone, Copy)]
-pub enum MaybeGridDefinition {
-    Fields(GridDefinition),
-    NoGridDefinition,
-}
-
 impl GridDefinition {
     pub const NUMBER: u64 = 3;
 
     pub const LEAST_PAYLOAD: usize = 9;
 
-    pub(crate) fn kind() -> Kind
-        ensures { result ≡ grid_definition }
-    {
-        Kind {
-            number: GridDefinition::NUMBER,
-            extent: Extent::LeastPayload(GridDefinition::LEAST_PAYLOAD),
-            values: Values::Nowhere,
-        }
-    }
+    pub(crate) const KIND: Kind = Kind {
+        number: GridDefinition::NUMBER,
+        extent: Extent::LeastPayload(GridDefinition::LEAST_PAYLOAD),
+        values: None,
+    };
 
     // Points and template of section 3; none under 9 octets.
-    pub fn from_payload(payload: &[u8]) -> MaybeGridDefinition
+    pub fn from_payload(payload: &[u8]) -> Option<GridDefinition>
         ensures { result ≡ grid_definition_of payload.now }
     {
         if payload.len() < GridDefinition::LEAST_PAYLOAD {
-            return MaybeGridDefinition::NoGridDefinition;
+            return None;
         }
-        MaybeGridDefinition::Fields(GridDefinition {
+        Some(GridDefinition {
             points: be32([payload[1], payload[2], payload[3], payload[4]]),
             template: be16([payload[7], payload[8]]),
         })

@@ -1,9 +1,8 @@
 // Section 1, the identification section.
 ghost use Rattle.std.specs.Prelude.{◌≡◌};
-ghost use Rattle.sections.specs.Kinds.{identification};
 ghost use Rattle.sections.specs.Identification.{identification_of};
 
-use crate::kinds::{Extent, Kind, Values};
+use crate::kinds::{Extent, Kind};
 use octets::be16;
 
 #[derive(Clone, Copy)]
@@ -30,35 +29,25 @@ pub struct Identification {
     pub processed: u8,
 }
 
-#[derive(Clone, Copy)]
-pub enum MaybeIdentification {
-    Fields(Identification),
-    NoIdentification,
-}
-
 impl Identification {
     pub const NUMBER: u64 = 1;
 
     pub const LEAST_PAYLOAD: usize = 16;
 
-    pub(crate) fn kind() -> Kind
-        ensures { result ≡ identification }
-    {
-        Kind {
-            number: Identification::NUMBER,
-            extent: Extent::LeastPayload(Identification::LEAST_PAYLOAD),
-            values: Values::Nowhere,
-        }
-    }
+    pub(crate) const KIND: Kind = Kind {
+        number: Identification::NUMBER,
+        extent: Extent::LeastPayload(Identification::LEAST_PAYLOAD),
+        values: None,
+    };
 
     // The 13 fields of section 1; none under 16 octets.
-    pub fn from_payload(payload: &[u8]) -> MaybeIdentification
+    pub fn from_payload(payload: &[u8]) -> Option<Identification>
         ensures { result ≡ identification_of payload.now }
     {
         if payload.len() < Identification::LEAST_PAYLOAD {
-            return MaybeIdentification::NoIdentification;
+            return None;
         }
-        MaybeIdentification::Fields(Identification {
+        Some(Identification {
             centre: be16([payload[0], payload[1]]),
             subcentre: be16([payload[2], payload[3]]),
             master: payload[4],

@@ -1,9 +1,8 @@
 // Section 0, the indicator section.
 ghost use Rattle.std.specs.Prelude.{◌≡◌};
-ghost use Rattle.sections.specs.Kinds.{indicator};
 ghost use Rattle.sections.specs.Indicator.{indicator_of};
 
-use crate::kinds::{Extent, Kind, Values};
+use crate::kinds::{Extent, Kind};
 use octets::be64;
 
 #[derive(Clone, Copy)]
@@ -14,12 +13,6 @@ pub struct Indicator {
     pub total: u64,
 }
 
-#[derive(Clone, Copy)]
-pub enum MaybeIndicator {
-    Fields(Indicator),
-    NoIndicator,
-}
-
 impl Indicator {
     pub const NUMBER: u64 = 0;
 
@@ -28,25 +21,21 @@ impl Indicator {
     // The edition that is read.
     pub const EDITION: u8 = 2;
 
-    pub(crate) fn kind() -> Kind
-        ensures { result ≡ indicator }
-    {
-        Kind {
-            number: Indicator::NUMBER,
-            extent: Extent::WholeSize(Indicator::WHOLE_SIZE),
-            values: Values::Nowhere,
-        }
-    }
+    pub(crate) const KIND: Kind = Kind {
+        number: Indicator::NUMBER,
+        extent: Extent::WholeSize(Indicator::WHOLE_SIZE),
+        values: None,
+    };
 
     // Discipline and total length, of the section's own octets; none under 16 octets. Neither
     // "GRIB" nor the edition is tested: framing does that.
-    pub fn from_section(section: &[u8]) -> MaybeIndicator
+    pub fn from_section(section: &[u8]) -> Option<Indicator>
         ensures { result ≡ indicator_of section.now }
     {
         if section.len() < Indicator::WHOLE_SIZE {
-            return MaybeIndicator::NoIndicator;
+            return None;
         }
-        MaybeIndicator::Fields(Indicator {
+        Some(Indicator {
             discipline: section[6],
             total: be64([
                 section[8],

@@ -22,72 +22,51 @@ pub enum Extent {
     LeastPayload(usize),
 }
 
-// The octets that carry values, counted from 1 at the section's first octet.
-#[derive(Clone, Copy)]
-pub enum Values {
-    // From this octet to the section's end.
-    FromOctet(usize),
-    Nowhere,
-}
-
 #[derive(Clone, Copy)]
 pub struct Kind {
     pub number: u64,
     pub extent: Extent,
-    pub values: Values,
-}
-
-#[derive(Clone, Copy)]
-pub enum MaybeKind {
-    Known(Kind),
-    Unknown,
-}
-
-// The least payload of a section that stands behind a header.
-#[derive(Clone, Copy)]
-pub enum LeastOf {
-    Octets(usize),
-    NoHeader,
+    pub values: Option<usize>,
 }
 
 // The kind that has this section number.
-pub(crate) fn kind_of(number: u64) -> MaybeKind
+pub(crate) fn kind_of(number: u64) -> Option<Kind>
     ensures { result ≡ kind_of number }
 {
     match number {
-        Indicator::NUMBER => MaybeKind::Known(Indicator::kind()),
-        Identification::NUMBER => MaybeKind::Known(Identification::kind()),
-        LocalUse::NUMBER => MaybeKind::Known(LocalUse::kind()),
-        GridDefinition::NUMBER => MaybeKind::Known(GridDefinition::kind()),
-        ProdDefinition::NUMBER => MaybeKind::Known(ProdDefinition::kind()),
-        ReprDefinition::NUMBER => MaybeKind::Known(ReprDefinition::kind()),
-        BitMap::NUMBER => MaybeKind::Known(BitMap::kind()),
-        DataSection::NUMBER => MaybeKind::Known(DataSection::kind()),
-        EndSection::NUMBER => MaybeKind::Known(EndSection::kind()),
-        _ => MaybeKind::Unknown,
+        Indicator::NUMBER => Some(Indicator::KIND),
+        Identification::NUMBER => Some(Identification::KIND),
+        LocalUse::NUMBER => Some(LocalUse::KIND),
+        GridDefinition::NUMBER => Some(GridDefinition::KIND),
+        ProdDefinition::NUMBER => Some(ProdDefinition::KIND),
+        ReprDefinition::NUMBER => Some(ReprDefinition::KIND),
+        BitMap::NUMBER => Some(BitMap::KIND),
+        DataSection::NUMBER => Some(DataSection::KIND),
+        EndSection::NUMBER => Some(EndSection::KIND),
+        _ => None,
     }
 }
 
 // The least payload of the sections that have this number, if they have a header.
-pub fn least_payload_of(number: u64) -> LeastOf
+pub fn least_payload_of(number: u64) -> Option<usize>
     ensures { result ≡ least_payload_of number }
 {
-    let MaybeKind::Known(kind) = kind_of(number) else {
-        return LeastOf::NoHeader;
+    let Some(kind) = kind_of(number) else {
+        return None;
     };
     let extent = kind.extent;
     match extent {
-        Extent::LeastPayload(octets) => LeastOf::Octets(octets),
-        Extent::WholeSize(_) => LeastOf::NoHeader,
+        Extent::LeastPayload(octets) => Some(octets),
+        Extent::WholeSize(_) => None,
     }
 }
 
 // Where the sections that have this number carry values.
-pub fn values_of(number: u64) -> Values
+pub fn values_of(number: u64) -> Option<usize>
     ensures { result ≡ values_of number }
 {
-    let MaybeKind::Known(kind) = kind_of(number) else {
-        return Values::Nowhere;
-    };
-    kind.values
+    match kind_of(number) {
+        Some(kind) => kind.values,
+        None => None,
+    }
 }

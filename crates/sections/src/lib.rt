@@ -12,13 +12,11 @@ mod prod_definition;
 mod repr_definition;
 mod unread;
 
-pub use bit_map::{BitMap, MaybeBitMap};
-pub use grid_definition::{GridDefinition, MaybeGridDefinition};
-pub use identification::{Identification, MaybeIdentification};
-pub use indicator::{Indicator, MaybeIndicator};
-pub use kinds::{
-    Extent, HEADER_SIZE, Kind, LeastOf, MaybeKind, Values, least_payload_of, values_of,
-};
-pub use prod_definition::{MaybeProdDefinition, ProdDefinition};
-pub use repr_definition::{MaybeReprDefinition, ReprDefinition};
+pub use bit_map::BitMap;
+pub use grid_definition::GridDefinition;
+pub use identification::Identification;
+pub use indicator::Indicator;
+pub use kinds::{Extent, HEADER_SIZE, Kind, least_payload_of, values_of};
+pub use prod_definition::ProdDefinition;
+pub use repr_definition::ReprDefinition;
 pub use unread::{DataSection, EndSection, LocalUse};

@@ -1,9 +1,8 @@
 // Section 5, the data representation section.
 ghost use Rattle.std.specs.Prelude.{◌≡◌};
-ghost use Rattle.sections.specs.Kinds.{repr_definition};
 ghost use Rattle.sections.specs.ReprDefinition.{repr_definition_of};
 
-use crate::kinds::{Extent, Kind, Values};
+use crate::kinds::{Extent, Kind};
 use octets::{be16, be32};
 
 #[derive(Clone, Copy)]
@@ -14,12 +13,6 @@ pub struct ReprDefinition {
     pub template: u16,
 }
 
-#[derive(Clone, Copy)]
-pub enum MaybeReprDefinition {
-    Fields(ReprDefinition),
-    NoReprDefinition,
-}
-
 impl ReprDefinition {
     pub const NUMBER: u64 = 5;
 
@@ -27,24 +20,20 @@ impl ReprDefinition {
 
     pub const FIRST_VALUES_OCTET: usize = 12;
 
-    pub(crate) fn kind() -> Kind
-        ensures { result ≡ repr_definition }
-    {
-        Kind {
-            number: ReprDefinition::NUMBER,
-            extent: Extent::LeastPayload(ReprDefinition::LEAST_PAYLOAD),
-            values: Values::FromOctet(ReprDefinition::FIRST_VALUES_OCTET),
-        }
-    }
+    pub(crate) const KIND: Kind = Kind {
+        number: ReprDefinition::NUMBER,
+        extent: Extent::LeastPayload(ReprDefinition::LEAST_PAYLOAD),
+        values: Some(ReprDefinition::FIRST_VALUES_OCTET),
+    };
 
     // Points and template of section 5; none under 6 octets.
-    pub fn from_payload(payload: &[u8]) -> MaybeReprDefinition
+    pub fn from_payload(payload: &[u8]) -> Option<ReprDefinition>
         ensures { result ≡ repr_definition_of payload.now }
     {
         if payload.len() < ReprDefinition::LEAST_PAYLOAD {
-            return MaybeReprDefinition::NoReprDefinition;
+            return None;
         }
-        MaybeReprDefinition::Fields(ReprDefinition {
+        Some(ReprDefinition {
             points: be32([payload[0], payload[1], payload[2], payload[3]]),
             template: be16([payload[4], payload[5]]),
         })

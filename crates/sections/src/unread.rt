@@ -1,8 +1,6 @@
 // Sections 2, 7 and 8: the kinds of which no field is decoded.
-ghost use Rattle.std.specs.Prelude.{◌≡◌};
-ghost use Rattle.sections.specs.Kinds.{local_use, data_section, end_section};
 
-use crate::kinds::{Extent, Kind, Values};
+use crate::kinds::{Extent, Kind};
 
 // Section 2, the local use section.
 #[derive(Clone, Copy)]
@@ -15,15 +13,11 @@ impl LocalUse {
 
     pub const FIRST_VALUES_OCTET: usize = 6;
 
-    pub(crate) fn kind() -> Kind
-        ensures { result ≡ local_use }
-    {
-        Kind {
-            number: LocalUse::NUMBER,
-            extent: Extent::LeastPayload(LocalUse::LEAST_PAYLOAD),
-            values: Values::FromOctet(LocalUse::FIRST_VALUES_OCTET),
-        }
-    }
+    pub(crate) const KIND: Kind = Kind {
+        number: LocalUse::NUMBER,
+        extent: Extent::LeastPayload(LocalUse::LEAST_PAYLOAD),
+        values: Some(LocalUse::FIRST_VALUES_OCTET),
+    };
 }
 
 // Section 7, the data section: the values themselves.
@@ -37,15 +31,11 @@ impl DataSection {
 
     pub const FIRST_VALUES_OCTET: usize = 6;
 
-    pub(crate) fn kind() -> Kind
-        ensures { result ≡ data_section }
-    {
-        Kind {
-            number: DataSection::NUMBER,
-            extent: Extent::LeastPayload(DataSection::LEAST_PAYLOAD),
-            values: Values::FromOctet(DataSection::FIRST_VALUES_OCTET),
-        }
-    }
+    pub(crate) const KIND: Kind = Kind {
+        number: DataSection::NUMBER,
+        extent: Extent::LeastPayload(DataSection::LEAST_PAYLOAD),
+        values: Some(DataSection::FIRST_VALUES_OCTET),
+    };
 }
 
 // Section 8, the end section: "7777".
@@ -57,13 +47,9 @@ impl EndSection {
 
     pub const WHOLE_SIZE: usize = 4;
 
-    pub(crate) fn kind() -> Kind
-        ensures { result ≡ end_section }
-    {
-        Kind {
-            number: EndSection::NUMBER,
-            extent: Extent::WholeSize(EndSection::WHOLE_SIZE),
-            values: Values::Nowhere,
-        }
-    }
+    pub(crate) const KIND: Kind = Kind {
+        number: EndSection::NUMBER,
+        extent: Extent::WholeSize(EndSection::WHOLE_SIZE),
+        values: None,
+    };
 }

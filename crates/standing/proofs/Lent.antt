@@ -1,5 +1,6 @@
 -- A walk that fills lent tables, over any form of a line: so many elements of a table to a line. What is to come, put onto what stands in
 -- the tables, stays the same from section to section.
+use Rattle.std.specs.Prelude.{Some, None, Ok, Err}
 use Rattle.std.proofs.Common.{◌≡◌, ℕ, ◌+◌, ◌*◌, ◌/◌, ◌<◌, ◌≤◌, Bool, true, false, eqb, ltb, leb, List, [], ◌∷◌, ◌++◌, length, sym, refl, ap, ◌∙◌, append-nil, add-zero, add_assoc, mul-le-mul_right, add-mul, one-mul, zero-add, zero-mul, arith, le-ltb, lt-ltb, le-leb}
 use mathlib.Core.Bool.{false≢true}
 use borrow.Author.Tests.{lt-leb}
@@ -14,12 +15,9 @@ use Rattle.framing.specs.declared.read.Offset.{Offset}
 use Rattle.framing.proofs.Tests.{by_test}
 use Rattle.index.specs.Lines.{place, with_span, in_force, opened, line_of}
 use Rattle.index.specs.declared.line.Span.{Span}
-use Rattle.index.specs.declared.line.MessageEnd.TheVariants.{GoesOn, ClosedAt}
 use Rattle.index.specs.declared.line.Force.{Force}
 use Rattle.index.specs.declared.line.Line.{Line}
 use Rattle.index.specs.declared.refusal.Refusal.TheVariants as refusal
-use Rattle.index.specs.declared.refusal.Outcome.{Outcome}
-use Rattle.index.specs.declared.refusal.Outcome.TheVariants as outcome
 use Rattle.index.specs.Bounds.{most_octets}
 use Rattle.index.specs.declared.bounds.Room.{Room}
 use Rattle.index.specs.Walk.{Reached, at_start, here, comes_in_force, Judgement, fitted, closing, gone_on, Told, ends, followed, walked}
@@ -34,6 +32,7 @@ use Rattle.reading.specs.declared.Seen.{Seen}
 use Rattle.reading.specs.declared.Seen.TheVariants.{Passes, Closes, Misplaced, NoGrid, Clean, InputOver, Unreadable}
 use Rattle.reading.proofs.Moves.{passes_reads, passes_settled, closes_between, closes_settled, seen_again}
 use Rattle.reading.proofs.Told.{told_from, told_by, told_next, told_start}
+use Rattle.index.specs.Outcome.{Outcome, refused_there}
 
 -- by cases on a test, for two choices
 pub by_test_2 : {A B : Type 0} (P : A → B → Type 0) (t : Bool) {a c : A} {b d : B} → (t ≡ true → P a b) → (t ≡ false → P c d)
@@ -211,7 +210,7 @@ module _ {A : Type 0} (width : ℕ) (encode : Line → List A) (wide : (l : Line
       }
 
   pub too_long : most_octets < length file
-      → meant ≡ result width encode wide 0 0 0 (outcome.Refused refusal.FileTooLong (place 0) (record { 0 = 0 })) rows₀ lines₀
+      → meant ≡ result width encode wide 0 0 0 (Err (refused_there refusal.FileTooLong (place 0) (record { 0 = 0 }))) rows₀ lines₀
   too_long long =
       ap (λ (t : Told). out width encode wide (at_start file) t rows₀ lines₀) (told_start file room ∙ simp (lt-ltb _ _ long))
       ∙ out_ends width encode wide (at_start file) _ rows₀ lines₀
@@ -230,56 +229,56 @@ module _ {A : Type 0} (width : ℕ) (encode : Line → List A) (wide : (l : Line
     ends_by {end = end} e f = by e ∙ ap (λ (t : Told). out width encode wide r t rows lines) f ∙ out_ends width encode wide r end rows lines
 
     -- by what is seen, where no table has a say
-    pub clean : seen file (reading cursor r.order) ≡ Clean → Ends outcome.Clean
+    pub clean : seen file (reading cursor r.order) ≡ Clean → Ends (Ok tt)
     unfolding told_by
     clean e = ends_by e refl
 
     pub input_over_lem : seen file (reading cursor r.order) ≡ InputOver
-        → Ends (outcome.Refused refusal.InputOver r.last.place r.last.section.offset)
+        → Ends (Err (refused_there refusal.InputOver r.last.place r.last.section.offset))
     unfolding told_by
     input_over_lem e = ends_by e refl
 
     pub unreadable : {fault : Fault} {offset : Offset} → seen file (reading cursor r.order) ≡ Unreadable fault offset
-        → Ends (outcome.Refused (refusal.Unreadable fault) (place r.sections) offset)
+        → Ends (Err (refused_there (refusal.Unreadable fault) (place r.sections) offset))
     unfolding told_by
     unreadable e = ends_by e refl
 
     pub no_grid : {s : Section} → seen file (reading cursor r.order) ≡ NoGrid s
-        → Ends (outcome.Refused (refusal.NoGrid s.number) (place r.sections) s.offset)
+        → Ends (Err (refused_there (refusal.NoGrid s.number) (place r.sections) s.offset))
     unfolding told_by
     no_grid e = ends_by e refl
 
     pub misplaced : {s : Section} → seen file (reading cursor r.order) ≡ Misplaced s → completes r.order s.number ≡ false
-        → Ends (outcome.Refused (refusal.Misplaced s.number) (place r.sections) s.offset)
+        → Ends (Err (refused_there (refusal.Misplaced s.number) (place r.sections) s.offset))
     unfolding told_by
     misplaced e c = ends_by e (rw c)
 
     -- 14, where a submessage that goes on has no room for its line
     pub no_line : {s : Section} {next : Reading} → seen file (reading cursor r.order) ≡ Passes s next → completes r.order s.number ≡ true
-        → most ≤ r.lines → Ends (outcome.Refused refusal.SubmessageTableFull (place r.sections) s.offset)
+        → most ≤ r.lines → Ends (Err (refused_there refusal.SubmessageTableFull (place r.sections) s.offset))
     unfolding told_by
     no_line e c full = ends_by e (rw (c, le-leb _ _ full))
 
     pub no_line_misplaced : {s : Section} → seen file (reading cursor r.order) ≡ Misplaced s → completes r.order s.number ≡ true
-        → most ≤ r.lines → Ends (outcome.Refused refusal.SubmessageTableFull (place r.sections) s.offset)
+        → most ≤ r.lines → Ends (Err (refused_there refusal.SubmessageTableFull (place r.sections) s.offset))
     unfolding told_by
     no_line_misplaced e c full = ends_by e (rw (c, le-leb _ _ full))
 
     -- 13, at a section that fits
     pub no_row : {s : Section} {next : Reading} → seen file (reading cursor r.order) ≡ Passes s next → completes r.order s.number ≡ false
-        → length rows₀ / 3 ≤ r.sections → Ends (outcome.Refused refusal.SectionTableFull (place r.sections) s.offset)
+        → length rows₀ / 3 ≤ r.sections → Ends (Err (refused_there refusal.SectionTableFull (place r.sections) s.offset))
     unfolding told_by fitted
     no_row e c full = ends_by e (rw (c, le-leb _ _ full))
 
     -- 13, then 14, at the section 8 that closes
     pub no_row_closing : {s : Section} {next : Reading} → seen file (reading cursor r.order) ≡ Closes s next
-        → length rows₀ / 3 ≤ r.sections → Ends (outcome.Refused refusal.SectionTableFull (place r.sections) s.offset)
+        → length rows₀ / 3 ≤ r.sections → Ends (Err (refused_there refusal.SectionTableFull (place r.sections) s.offset))
     unfolding told_by closing
     no_row_closing e full = ends_by e (rw (le-leb _ _ full))
 
     pub no_line_closing : {s : Section} {next : Reading} → seen file (reading cursor r.order) ≡ Closes s next
         → r.sections < length rows₀ / 3 → most ≤ r.lines
-        → Ends (outcome.Refused refusal.SubmessageTableFull (place r.sections) s.offset)
+        → Ends (Err (refused_there refusal.SubmessageTableFull (place r.sections) s.offset))
     unfolding told_by closing
     no_line_closing e free full = ends_by e (rw (lt-leb _ _ free, le-leb _ _ full))
 
@@ -348,7 +347,7 @@ module _ {A : Type 0} (width : ℕ) (encode : Line → List A) (wide : (l : Line
         })
         next.cursor
         (put_at (r.sections * 3) (s.number ∷ s.offset.0 ∷ s.length ∷ []) rows)
-        (put_at (r.lines * width) (encode (line_of r.force (ClosedAt (place r.sections)))) lines)
+        (put_at (r.lines * width) (encode (line_of r.force (Some (place r.sections)))) lines)
     unfolding told_by closing
     closed {s} {next} e free line =
         record {
@@ -368,7 +367,7 @@ module _ {A : Type 0} (width : ℕ) (encode : Line → List A) (wide : (l : Line
         }
       where
         l : Line
-        l = line_of r.force (ClosedAt (place r.sections))
+        l = line_of r.force (Some (place r.sections))
 
         rows' : List ℕ
         rows' = put_at (r.sections * 3) (s.number ∷ s.offset.0 ∷ s.length ∷ []) rows
@@ -388,7 +387,7 @@ module _ {A : Type 0} (width : ℕ) (encode : Line → List A) (wide : (l : Line
     -- a submessage that goes on is told
     pub gone_on_lem : {s : Section} {next : Reading} → seen file (reading cursor r.order) ≡ Passes s next
         → completes r.order s.number ≡ true → r.lines < most
-        → Kept (gone_on r) cursor rows (put_at (r.lines * width) (encode (line_of r.force GoesOn)) lines)
+        → Kept (gone_on r) cursor rows (put_at (r.lines * width) (encode (line_of r.force None)) lines)
     unfolding told_by completes fitted
     gone_on_lem {s} {next} e c free =
         record {
@@ -407,7 +406,7 @@ module _ {A : Type 0} (width : ℕ) (encode : Line → List A) (wide : (l : Line
         }
       where
         l : Line
-        l = line_of r.force GoesOn
+        l = line_of r.force None
 
         later : Reached → Told
         later q = told_from file room q next.cursor
@@ -429,9 +428,9 @@ module _ {A : Type 0} (width : ℕ) (encode : Line → List A) (wide : (l : Line
         → r.lines < most
         → meant
         ≡ result width encode wide r.sections (r.lines + 1) r.force.message
-        (outcome.Refused (refusal.Misplaced s.number) (place r.sections) s.offset)
+        (Err (refused_there (refusal.Misplaced s.number) (place r.sections) s.offset))
         rows
-        (put_at (r.lines * width) (encode (line_of r.force GoesOn)) lines)
+        (put_at (r.lines * width) (encode (line_of r.force None)) lines)
     unfolding told_by
     misplaced_line {s} e c free =
         by e
@@ -440,10 +439,10 @@ module _ {A : Type 0} (width : ℕ) (encode : Line → List A) (wide : (l : Line
         ∙ out_ends width encode wide (gone_on r) end rows (put_at (r.lines * width) (encode l) lines)
       where
         l : Line
-        l = line_of r.force GoesOn
+        l = line_of r.force None
 
         end : Outcome
-        end = outcome.Refused (refusal.Misplaced s.number) (place r.sections) s.offset
+        end = Err (refused_there (refusal.Misplaced s.number) (place r.sections) s.offset)
 
         first : told_by file room r (Misplaced s) ≡ line_first width encode wide l (ends end)
         first = rw (c, lt-leb _ _ free)
@@ -457,7 +456,7 @@ module _ {A : Type 0} (width : ℕ) (encode : Line → List A) (wide : (l : Line
         (record { file = r.file; sections = r.sections + 1; lines = r.lines + 1; last = here r s; order = next.order; force = force })
         next.cursor
         (put_at (r.sections * 3) (s.number ∷ s.offset.0 ∷ s.length ∷ []) rows)
-        (put_at (r.lines * width) (encode (line_of r.force GoesOn)) lines)
+        (put_at (r.lines * width) (encode (line_of r.force None)) lines)
     passed_behind {s} force f e c line free =
         passed (gone_on_lem kept e c line) force f (seen_again file cursor r.order e c) (none s.number) free
 
@@ -465,7 +464,7 @@ module _ {A : Type 0} (width : ℕ) (encode : Line → List A) (wide : (l : Line
         → completes r.order s.number ≡ true → r.lines < most → length rows₀ / 3 ≤ r.sections
         → meant
         ≡ result width encode wide r.sections (r.lines + 1) r.force.message
-        (outcome.Refused refusal.SectionTableFull (place r.sections) s.offset)
+        (Err (refused_there refusal.SectionTableFull (place r.sections) s.offset))
         rows
-        (put_at (r.lines * width) (encode (line_of r.force GoesOn)) lines)
+        (put_at (r.lines * width) (encode (line_of r.force None)) lines)
     no_row_behind {s} e c line full = no_row (gone_on_lem kept e c line) (seen_again file cursor r.order e c) (none s.number) full

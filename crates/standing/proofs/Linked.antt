@@ -6,6 +6,7 @@ use prog.LinkedThreads.{HasT}
 use Rattle.standing.proofs.TheLink as link
 use Rattle.standing.proofs.one_more.Symbol as code_of_one_more
 use Rattle.standing.proofs.passed_row.Symbol as code_of_passed_row
+use Rattle.standing.proofs.put_numbers.Symbol as code_of_put_numbers
 use Rattle.standing.proofs.put_row.Symbol as code_of_put_row
 use Rattle.standing.proofs.span_after.Symbol as code_of_span_after
 
@@ -23,6 +24,10 @@ linked_one_more W stands = link.«linked-standing::one_more» W stands tt
 pub linked_passed_row : (W : World) → Stands W → HasT (in_world W) true code_of_passed_row.code
 unfolding table
 linked_passed_row W stands = link.«linked-standing::passed_row» W stands tt
+
+pub linked_put_numbers : (W : World) → Stands W → HasT (in_world W) true code_of_put_numbers.code
+unfolding table
+linked_put_numbers W stands = link.«linked-standing::put_numbers» W stands tt
 
 pub linked_put_row : (W : World) → Stands W → HasT (in_world W) true code_of_put_row.code
 unfolding table

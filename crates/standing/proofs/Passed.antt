@@ -1,4 +1,5 @@
 -- What a section that is passed changes: one section more is told, and it comes in force; a section 0 says where its message stands.
+use Rattle.std.specs.Prelude.{Option, Some}
 use Rattle.std.proofs.Common.{◌≡◌, ℕ, ◌+◌, ◌<◌, ◌≤◌, Bool, true, false, eqb, List, set, refl, ap, ◌∙◌, arith, le-ltb, lt-ltb, eq-eqb, ne_eqb, eqb-true}
 use Rattle.octets.specs.Words.{pick}
 use Rattle.octets.specs.BigEndian.{be_at}
@@ -14,8 +15,6 @@ use Rattle.index.specs.declared.line.Span.{Span}
 use Rattle.framing.specs.declared.read.Section.{Section}
 use Rattle.framing.specs.declared.read.Cursor.{Cursor}
 use Rattle.index.specs.declared.line.Force.{Force}
-use Rattle.index.specs.declared.line.LocalUsePlace.{LocalUsePlace}
-use Rattle.index.specs.declared.line.LocalUsePlace.TheVariants.{At}
 use Rattle.standing.specs.declared.Standing.{Standing}
 use Rattle.standing.specs.Standing.{IsOctets, one_more, force_in, total_of, span_after}
 
@@ -63,8 +62,8 @@ said {file} {walks} at rest {s} {next} same octets before e =
     by_number false other = refl
 
 -- and in the walk's variables: by a section 2, by one behind it, and by one before
-module _ (at : Standing) (span : Span) (local : LocalUsePlace) (places : List Place) (s : Section) (next : Cursor) (here : Place) where
-  pub in_force_local : s.number ≡ 2 → behind (force_in at span local places) s next here ≡ force_in at span (At here) places
+module _ (at : Standing) (span : Span) (local : Option Place) (places : List Place) (s : Section) (next : Cursor) (here : Place) where
+  pub in_force_local : s.number ≡ 2 → behind (force_in at span local places) s next here ≡ force_in at span (Some here) places
   unfolding in_force span_after
   in_force_local two = rw (eq-eqb s.number 2 two, ne_eqb s.number 0 (λ e. omega arith)) refl
 

@@ -1,11 +1,11 @@
 -- A table that is filled from the front: what is put at an index, and what was there before behind it.
-use Rattle.std.proofs.Common.{◌≡◌, ℕ, zero, suc, ◌+◌, ◌*◌, ◌/◌, ◌<◌, ◌≤◌, leb, List, [], ◌∷◌, ◌++◌, length, take, drop, set, sym, refl, ap, ◌∙◌, append_assoc, add-zero, add_assoc, zero-add, add-one, arith, length-append, length-drop, take-append-drop, length-take-le, drop-drop, take_at, drop_at, le-leb, leb-false}
+use Rattle.std.proofs.Common.{◌≡◌, ℕ, zero, suc, ◌+◌, ◌*◌, ◌/◌, ◌<◌, ◌≤◌, leb, get_or, List, [], ◌∷◌, ◌++◌, length, take, drop, set, sym, refl, ap, ◌∙◌, append_assoc, add-zero, add_assoc, zero-add, add-one, arith, length-append, length-drop, take-append-drop, length-take-le, take-suc, drop-drop, take_at, drop_at, le-leb, leb-false}
 use native.Mathlib.Numerals.{towards_suc}
 use lib.Seq.{set_split}
-use borrow.Author.Tests.{lt-leb}
+use borrow.Author.Tests.{lt-leb, lt-ltb, le-ltb}
 use Rattle.framing.proofs.Tests.{by_test}
 use Rattle.framing.specs.declared.read.Section.{Section}
-use Rattle.standing.specs.Put.{put_at, row_of, row_put}
+use Rattle.standing.specs.Put.{put_at, row_of, row_put, numbers_put}
 use Rattle.standing.specs.Tables.{stored_over}
 
 module _ {A : Type 0} where
@@ -73,3 +73,34 @@ unfolding row_put
 row_length place s rows =
     by_test (λ (l : List ℕ). length l ≡ length rows) (leb (length rows / 3) place) (λ full. refl)
     λ left. put_length (place * 3) (row_of s) rows (omega (arith, leb-false (length rows / 3) place left))
+
+-- where the table has room for them, numbers are put at an index
+pub numbers_there : (at : ℕ) (numbers table : List ℕ) → at + length numbers ≤ length table
+    → numbers_put at numbers table ≡ put_at at numbers table
+unfolding numbers_put
+numbers_there at numbers table room = simp (le-ltb _ _ room)
+
+-- .. and elsewhere nothing changes
+pub numbers_nowhere : (at : ℕ) (numbers table : List ℕ) → length table < at + length numbers
+    → numbers_put at numbers table ≡ table
+unfolding numbers_put
+numbers_nowhere at numbers table full = simp (lt-ltb _ _ full)
+
+-- the first of some numbers are put, and then the next of them
+pub next_put : (at : ℕ) (numbers before : List ℕ) {table : List ℕ} (i : ℕ)
+    → at + length numbers ≤ length before → i < length numbers
+    → table ≡ put_at at (take i numbers) before
+    → set table (at + i) (get_or numbers i 0) ≡ put_at at (take (i + 1) numbers) before
+next_put at numbers before {table} i room more same =
+    let x = get_or numbers i 0 in
+    let front : length (take i numbers) ≡ i = length-take-le i numbers (omega arith) in
+    let fits : at + length (take i numbers) ≤ length before = omega (arith, front) in
+    let long : length table ≡ length before =
+    ap (λ (l : List ℕ). length l) same ∙ put_length at (take i numbers) before fits in
+    let longer : take i numbers ++ (x ∷ []) ≡ take (i + 1) numbers =
+    rw add-one (sym (take-suc numbers i 0 more)) in
+    put_one (at + i) x table (omega (arith, long))
+    ∙ ap (put_at (at + i) (x ∷ [])) same
+    ∙ ap (λ (k : ℕ). put_at (at + k) (x ∷ []) (put_at at (take i numbers) before)) (sym front)
+    ∙ put_more at (take i numbers) (x ∷ []) before fits
+    ∙ ap (λ (l : List ℕ). put_at at l before) longer

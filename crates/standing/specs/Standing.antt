@@ -1,5 +1,5 @@
 -- Machinery: where a walk stands, and a section that it passes.
-use Rattle.std.specs.Prelude.{ℕ, ◌+◌, ◌%◌, ◌^◌, ◌<◌, List, ◌==◌, nat_lt, slice_index}
+use Rattle.std.specs.Prelude.{ℕ, ◌+◌, ◌%◌, ◌^◌, ◌<◌, List, ◌==◌, nat_lt, slice_index, Option}
 use Rattle.octets.specs.Words.{pick}
 use Rattle.sections.specs.Kinds as kinds
 use Rattle.framing.specs.declared.read.Section.{Section}
@@ -8,7 +8,6 @@ use Rattle.order.specs.declared.Place.{Place}
 use Rattle.index.specs.Lines.{place, span}
 use Rattle.index.specs.declared.line.Span.{Span}
 use Rattle.index.specs.declared.line.Force.{Force}
-use Rattle.index.specs.declared.line.LocalUsePlace.{LocalUsePlace}
 use Rattle.reading.specs.declared.Reading.{Reading}
 use Rattle.standing.specs.declared.Standing.{Standing}
 
@@ -21,7 +20,7 @@ unfoldable pub one_more : ℕ → ℕ
 one_more n = pick (nat_lt n 18446744073709551615) (n + 1) n
 
 -- what is in force, from the walk's variables
-abbrev pub force_in : Standing → Span → LocalUsePlace → List Place → Force
+abbrev pub force_in : Standing → Span → Option Place → List Place → Force
 force_in at span local places =
     record {
       message = at.message;

@@ -5,7 +5,7 @@
 #![tactic(auto)]
 
 ghost use Rattle.std.specs.Prelude.{◌≡◌};
-ghost use Rattle.standing.specs.Put.{row_put};
+ghost use Rattle.standing.specs.Put.{row_put, numbers_put};
 ghost use Rattle.standing.specs.Standing.{one_more, total_of, span_after, passed_row};
 
 use framing::{Cursor, Section};
@@ -16,9 +16,6 @@ use sections::Indicator;
 
 // Numbers of a row: section number, offset, length.
 pub const ROW: usize = 3;
-
-// Section numbers that a place is kept for: all but the end section's.
-pub const KEPT: usize = 8;
 
 #[derive(Clone, Copy)]
 pub struct Standing {
@@ -100,4 +97,19 @@ pub fn put_row(rows: &mut [u64], place: u64, section: Section)
     rows[i] = section.number;
     rows[i + 1] = offset.0;
     rows[i + 2] = section.length;
+}
+
+// Stores numbers from an index on; a table without room for all of them there stays as it was.
+pub fn put_numbers(table: &mut [u64], at: usize, numbers: &[u64])
+    ensures { table.new ≡ numbers_put at numbers.now table.old }
+{
+    if table.len() < numbers.len() {
+        return;
+    }
+    if table.len() - numbers.len() < at {
+        return;
+    }
+    for (i, number) in numbers.iter().enumerate() {
+        table[at + i] = *number;
+    }
 }

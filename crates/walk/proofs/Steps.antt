@@ -1,4 +1,5 @@
 -- Turns of which a row is all that comes, one after the other: what `step` keeps.
+use Rattle.std.specs.Prelude.{Option, Some, None}
 use mathlib.Core.Path.{◌≡◌, refl, sym, ap, subst, ◌∙◌}
 use mathlib.Core.Bool.{false}
 use mathlib.Core.List.{List}
@@ -13,15 +14,12 @@ use Rattle.order.specs.Order.{completes}
 use Rattle.order.specs.declared.Place.{Place}
 use Rattle.index.specs.Lines.{place}
 use Rattle.index.specs.declared.bounds.Room.{Room}
-use Rattle.index.specs.declared.line.LocalUsePlace.{LocalUsePlace}
 use Rattle.index.specs.declared.line.Span.{Span}
 use Rattle.reading.specs.Reading.{Settled, seen}
 use Rattle.reading.specs.declared.Reading.{Reading}
 use Rattle.reading.specs.declared.Seen.{Seen}
 use Rattle.reading.specs.declared.Seen.TheVariants.{Passes, Closes, Misplaced, NoGrid, Clean, InputOver, Unreadable}
 use Rattle.reading.proofs.Moves.{passes_stands, passes_kept, passes_settled}
-use Rattle.walk.specs.declared.lines.Only.{Only}
-use Rattle.walk.specs.declared.lines.Only.TheVariants.{Row, More}
 use Rattle.standing.specs.declared.Standing.{Standing}
 use Rattle.walk.specs.declared.tally.Tally.{Tally}
 use Rattle.standing.specs.Put.{row_put}
@@ -52,9 +50,9 @@ pub record Alone (room : Room) (at : Standing) (v : Seen) (s : Section) (next : 
   pub lone : completes at.reading.order s.number ≡ false
 
 -- .. where a row is all that comes of it
-abbrev Says : Room → Standing → Seen → Only → Type 0
-Says room at v (Row s next) = Alone room at v s next
-Says room at v More = Unit
+abbrev Says : Room → Standing → Seen → Option (Section × Reading) → Type 0
+Says room at v (Some (s, next)) = Alone room at v s next
+Says room at v None = Unit
 
 says : (room : Room) (at : Standing) (v : Seen) → Says room at v (row_only room at v)
 unfolding row_only
@@ -69,12 +67,12 @@ says room at Clean = tt
 says room at InputOver = tt
 says room at (Unreadable fault offset) = tt
 
-pub alone : (room : Room) (at : Standing) (v : Seen) {s : Section} {next : Reading} → row_only room at v ≡ Row s next → Alone room at v s next
+pub alone : (room : Room) (at : Standing) (v : Seen) {s : Section} {next : Reading} → row_only room at v ≡ Some (s, next) → Alone room at v s next
 alone room at v e = subst (Says room at v) e (says room at v)
 
 module _ (file : List ℕ) (room : Room) where
   abbrev pub OnlyRow : Tally → Section → Reading → Type 0
-  OnlyRow t s next = row_only room (standing_of t) (seen file t.reading) ≡ Row s next
+  OnlyRow t s next = row_only room (standing_of t) (seen file t.reading) ≡ Some (s, next)
 
   -- the turn passes it, and no more
   pub row_turn : (t : Tally) {s : Section} {next : Reading} → OnlyRow t s next → turn_of file room t ≡ passed_of (fresh_of t) s next
@@ -87,18 +85,19 @@ module _ (file : List ℕ) (room : Room) where
   unfolding steps_of rows_after
   goes_on most t rows e = rw (e, row_turn t e)
 
-  stops : (most : ℕ) (t : Tally) (rows : List ℕ) → row_only room (standing_of t) (seen file t.reading) ≡ More
+  stops : (most : ℕ) (t : Tally) (rows : List ℕ) → row_only room (standing_of t) (seen file t.reading) ≡ None
       → let u = turn_of file room t in
       steps_of file room (suc most) t rows ≡ record { tally = u; rows = rows_after u.passed u.last rows }
   unfolding steps_of
   stops most t rows e = rw e
 
 -- what is to come from here on is the whole step
-pub record Stepping (file rows₀ : List ℕ) (lines : ℕ) (room : Room) (before : Tally) (at : Standing) (span : Span) (local : LocalUsePlace)
+pub record Stepping (file rows₀ : List ℕ) (lines : ℕ) (room : Room) (before : Tally) (at : Standing) (span : Span) (local : Option Place)
     (places : List Place) (rows : List ℕ) : Type 0 where
   pub most : ℕ
   pub enough : length file - at.reading.cursor.at.0 < most
-  pub comes : steps_of file room most (resumed_of before at span local places) rows ≡ step_of file lines before rows₀
+  pub comes : steps_of file room most (resumed_of at span local places) rows
+      ≡ step_of file lines before rows₀
   pub room_is : room ≡ room_of (length rows₀) lines
   pub same_rows : length rows ≡ length rows₀
   pub settled : Settled at.reading
@@ -109,27 +108,32 @@ unfolding step_of steps_of turn_of
 begins file rows₀ lines before settled =
     record { most = suc (length file); enough = omega arith; comes = refl; room_is = refl; same_rows = refl; settled = settled }
 
-module _ {file rows₀ : List ℕ} {lines : ℕ} {room : Room} {before : Tally} {at : Standing} {span : Span} {local : LocalUsePlace} {places : List Place} {rows : List ℕ}
+module _ {file rows₀ : List ℕ} {lines : ℕ} {room : Room} {before : Tally} {at : Standing} {span : Span} {local : Option Place} {places : List Place} {rows : List ℕ}
     (so_far : Stepping file rows₀ lines room before at span local places rows) where
   -- a turn is left
   one_left : so_far.most ≡ suc (so_far.most - 1)
   one_left = omega (arith, so_far.enough)
 
-  comes : steps_of file room (suc (so_far.most - 1)) (resumed_of before at span local places) rows ≡ step_of file lines before rows₀
-  comes = subst (λ (n : ℕ). steps_of file room n (resumed_of before at span local places) rows ≡ step_of file lines before rows₀) one_left so_far.comes
+  comes : steps_of file room (suc (so_far.most - 1)) (resumed_of at span local places) rows
+      ≡ step_of file lines before rows₀
+  comes =
+      subst
+      (λ (n : ℕ).
+      steps_of file room n (resumed_of at span local places) rows ≡ step_of file lines before rows₀)
+      one_left so_far.comes
 
   -- what is seen here, as `row_only` tells it
-  abbrev here : Only
+  abbrev here : Option (Section × Reading)
   here = row_only room at (seen file at.reading)
 
-  told : {v : Seen} {o p : Only} → v ≡ seen file at.reading → o ≡ row_only room at v → o ≡ p → here ≡ p
+  told : {v : Seen} {o p : Option (Section × Reading)} → v ≡ seen file at.reading → o ≡ row_only room at v → o ≡ p → here ≡ p
   told e f g = ap (λ (v : Seen). row_only room at v) (sym e) ∙ sym f ∙ g
 
   -- a section whose row is all
   pub record Lone (s : Section) (next : Reading) : Type 0 where
-    pub is : here ≡ Row s next
+    pub is : here ≡ Some (s, next)
 
-  pub lone : {v : Seen} {o : Only} {s : Section} {next : Reading} → v ≡ seen file at.reading → o ≡ row_only room at v → o ≡ Row s next → Lone s next
+  pub lone : {v : Seen} {o : Option (Section × Reading)} {s : Section} {next : Reading} → v ≡ seen file at.reading → o ≡ row_only room at v → o ≡ Some (s, next) → Lone s next
   lone e f g = record { is = told e f g }
 
   module _ {s : Section} {next : Reading} (l : Lone s next) where
@@ -148,7 +152,7 @@ module _ {file rows₀ : List ℕ} {lines : ℕ} {room : Room} {before : Tally} 
         → length file - at'.reading.cursor.at.0 < length file - at.reading.cursor.at.0
     falls_to same = rw same falls
 
-    pub goes : {at' : Standing} {span' : Span} {local' : LocalUsePlace} {places' : List Place} {rows' : List ℕ}
+    pub goes : {at' : Standing} {span' : Span} {local' : Option Place} {places' : List Place} {rows' : List ℕ}
         → behind (force_in at span local places) s next.cursor (place at.sections) ≡ force_in at span' local' places'
         → at' ≡ passed_row at s next → rows' ≡ row_put at.sections s rows
         → Stepping file rows₀ lines room before at' span' local' places' rows'
@@ -157,23 +161,29 @@ module _ {file rows₀ : List ℕ} {lines : ℕ} {room : Room} {before : Tally} 
         (record {
           most = so_far.most - 1;
           enough = omega (arith, so_far.enough, falls);
-          comes = next_is_lem ∙ sym (goes_on file room (so_far.most - 1) (resumed_of before at span local places) rows l.is) ∙ comes;
+          comes =
+              next_is_lem
+              ∙ sym (goes_on file room (so_far.most - 1) (resumed_of at span local places) rows l.is)
+              ∙ comes;
           room_is = so_far.room_is;
           same_rows = row_length at.sections s rows ∙ so_far.same_rows;
           settled = passes_settled file at.reading so_far.settled what.sees;
         })
       where
-        next_is_lem : steps_of file room (so_far.most - 1) (resumed_of before (passed_row at s next) span' local' places') (row_put at.sections s rows)
-            ≡ steps_of file room (so_far.most - 1) (fresh_of (passed_of (fresh_of (resumed_of before at span local places)) s next)) (row_put at.sections s rows)
+        next_is_lem : steps_of file room (so_far.most - 1)
+            (resumed_of (passed_row at s next) span' local' places') (row_put at.sections s rows)
+            ≡ steps_of file room (so_far.most - 1)
+            (fresh_of (passed_of (fresh_of (resumed_of at span local places)) s next))
+            (row_put at.sections s rows)
         next_is_lem = rw force
 
   -- the turn behind them
   pub record Last (r : Tally) : Type 0 where
-    pub more_than : here ≡ More
-    pub is : r ≡ by_seen (seen file at.reading) room (resumed_of before at span local places)
+    pub more_than : here ≡ None
+    pub is : r ≡ by_seen (seen file at.reading) room (resumed_of at span local places)
 
-  pub last_is : {v : Seen} {o : Only} {f r : Tally} → v ≡ seen file at.reading → o ≡ row_only room at v → o ≡ More
-      → f ≡ resumed_of before at span local places → r ≡ by_seen v room f → Last r
+  pub last_is : {v : Seen} {o : Option (Section × Reading)} {f r : Tally} → v ≡ seen file at.reading → o ≡ row_only room at v → o ≡ None
+      → f ≡ resumed_of at span local places → r ≡ by_seen v room f → Last r
   last_is e f g h k = record { more_than = told e f g; is = k ∙ rw (h, e) }
 
   module _ {r : Tally} (l : Last r) where
@@ -181,7 +191,9 @@ module _ {file rows₀ : List ℕ} {lines : ℕ} {room : Room} {before : Tally} 
         → (r ≡ (step_of file lines before rows₀).tally) × (rows' ≡ (step_of file lines before rows₀).rows)
     unfolding turn_of
     done stored =
-        let whole = sym (stops file room (so_far.most - 1) (resumed_of before at span local places) rows l.more_than) ∙ comes in (
+        let whole =
+        sym (stops file room (so_far.most - 1) (resumed_of at span local places) rows l.more_than)
+        ∙ comes in (
           l.is ∙ ap (λ (x : Stepped). x.tally) whole,
           stored ∙ ap (λ (u : Tally). rows_after u.passed u.last rows) l.is ∙ ap (λ (x : Stepped). x.rows) whole,
         )

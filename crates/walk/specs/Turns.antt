@@ -1,6 +1,23 @@
 -- Machinery: a turn of the loop that fills the lent tables, over what is seen at the reading, and
 -- the turns of a step.
-use Rattle.std.specs.Prelude.{ℕ, zero, suc, Bool, true, false, List, ltb, leb, length, set}
+use Rattle.std.specs.Prelude.{
+  ℕ,
+  zero,
+  suc,
+  Bool,
+  true,
+  false,
+  List,
+  ltb,
+  leb,
+  length,
+  set,
+  Option,
+  Some,
+  None,
+  Ok,
+  Err,
+}
 use Rattle.octets.specs.Words.{pick}
 use Rattle.framing.specs.declared.read.Section.{Section}
 use Rattle.order.specs.Order.{completes}
@@ -14,14 +31,10 @@ use Rattle.index.specs.Lines.{
   with_submessage,
   line_of,
 }
-use Rattle.index.specs.declared.line.MessageEnd.TheVariants.{GoesOn, ClosedAt}
 use Rattle.index.specs.declared.line.Span.{Span}
 use Rattle.index.specs.declared.line.Line.{Line}
-use Rattle.index.specs.declared.line.LocalUsePlace.{LocalUsePlace}
 use Rattle.index.specs.declared.refusal.Refusal.{Refusal}
 use Rattle.index.specs.declared.refusal.Refusal.TheVariants as refusal
-use Rattle.index.specs.declared.refusal.Outcome.{Outcome}
-use Rattle.index.specs.declared.refusal.Outcome.TheVariants as outcome
 use Rattle.index.specs.declared.listed.Listed.{Listed}
 use Rattle.index.specs.Bounds.{most_octets}
 use Rattle.index.specs.declared.bounds.Room.{Room}
@@ -38,21 +51,21 @@ use Rattle.reading.specs.declared.Seen.TheVariants.{
   Unreadable,
 }
 use Rattle.walk.specs.declared.lines.Answer.{Answer}
-use Rattle.walk.specs.declared.lines.Only.{Only}
-use Rattle.walk.specs.declared.lines.Only.TheVariants.{Row, More}
 use Rattle.standing.specs.declared.Standing.{Standing}
 use Rattle.walk.specs.declared.tally.Tally.{Tally}
 use Rattle.standing.specs.Standing.{one_more, force_in, span_after}
 use Rattle.standing.specs.Put.{row_put}
 use Rattle.standing.specs.Tables.{room_of}
+use Rattle.index.specs.Outcome.{Outcome, refused_there}
 
 -- the section table after a turn
 unfoldable pub rows_after : Bool → Listed → List ℕ → List ℕ
 rows_after passed s rows = pick passed (row_put s.place.0 s.section rows) rows
 
 -- the submessage table after a turn
-unfoldable pub lines_after : Bool → ℕ → Line → List Line → List Line
-lines_after due slot line lines = pick due (set lines slot line) lines
+unfoldable pub lines_after : Option (ℕ × Line) → List Line → List Line
+lines_after (Some (slot, line)) lines = set lines slot line
+lines_after None lines = lines
 
 -- before the first section
 abbrev pub unstarted : Tally
@@ -64,14 +77,11 @@ unstarted =
       force = opened 0;
       last = unlisted;
       passed = false;
-      due = false;
-      slot = 0;
-      line = line_of (opened 0) GoesOn;
-      going = true;
-      outcome = outcome.Clean;
+      due = None;
+      ended = None;
     }
 
--- a turn begins: nothing is due yet
+-- a turn begins, of a walk that goes on: nothing is due yet
 abbrev pub fresh_of : Tally → Tally
 fresh_of t =
     record {
@@ -81,11 +91,8 @@ fresh_of t =
       force = t.force;
       last = t.last;
       passed = false;
-      due = false;
-      slot = t.slot;
-      line = t.line;
-      going = t.going;
-      outcome = t.outcome;
+      due = None;
+      ended = None;
     }
 
 -- where a walk stands
@@ -100,9 +107,9 @@ standing_of t =
       last = t.last;
     }
 
--- a turn begins where a walk stands now, with this in force: nothing is due yet
-abbrev pub resumed_of : Tally → Standing → Span → LocalUsePlace → List Place → Tally
-resumed_of t at span local places =
+-- a turn begins where a walk stands that goes on, with this in force: nothing is due yet
+abbrev pub resumed_of : Standing → Span → Option Place → List Place → Tally
+resumed_of at span local places =
     record {
       reading = at.reading;
       sections = at.sections;
@@ -110,11 +117,8 @@ resumed_of t at span local places =
       force = force_in at span local places;
       last = at.last;
       passed = false;
-      due = false;
-      slot = t.slot;
-      line = t.line;
-      going = t.going;
-      outcome = t.outcome;
+      due = None;
+      ended = None;
     }
 
 -- the walk ends
@@ -128,14 +132,11 @@ ended_of t end =
       last = t.last;
       passed = t.passed;
       due = t.due;
-      slot = t.slot;
-      line = t.line;
-      going = false;
-      outcome = end;
+      ended = Some end;
     }
 
 abbrev pub refused_of : Tally → Refusal → Section → Tally
-refused_of t why s = ended_of t (outcome.Refused why (place t.sections) s.offset)
+refused_of t why s = ended_of t (Err (refused_there why (place t.sections) s.offset))
 
 -- the submessage in hand is complete, and its message goes on: its line is due
 abbrev pub told_of : Tally → Tally
@@ -147,11 +148,8 @@ told_of t =
       force = with_submessage t.force (one_more t.force.submessage);
       last = t.last;
       passed = t.passed;
-      due = true;
-      slot = t.lines;
-      line = line_of t.force GoesOn;
-      going = t.going;
-      outcome = t.outcome;
+      due = Some (t.lines, line_of t.force None);
+      ended = t.ended;
     }
 
 -- a section is passed
@@ -167,10 +165,7 @@ passed_of t s next =
       last = record { place = place t.sections; section = s };
       passed = true;
       due = t.due;
-      slot = t.slot;
-      line = t.line;
-      going = t.going;
-      outcome = t.outcome;
+      ended = t.ended;
     }
 
 -- section 8 closes the message
@@ -183,11 +178,8 @@ shut_of t s next =
       force = opened (one_more t.force.message);
       last = record { place = place t.sections; section = s };
       passed = true;
-      due = true;
-      slot = t.lines;
-      line = line_of t.force (ClosedAt (place t.sections));
-      going = t.going;
-      outcome = outcome.Clean;
+      due = Some (t.lines, line_of t.force (Some (place t.sections)));
+      ended = None;
     }
 
 -- a section that fits: 13
@@ -225,36 +217,36 @@ by_seen (Passes s next) room t = taken_of room t s next
 by_seen (Closes s next) room t = closed_of room t s next
 by_seen (Misplaced s) room t = misplaced_of room t s
 by_seen (NoGrid s) room t = refused_of t (refusal.NoGrid s.number) s
-by_seen Clean room t = ended_of t outcome.Clean
+by_seen Clean room t = ended_of t (Ok tt)
 by_seen InputOver room t =
-    ended_of t (outcome.Refused refusal.InputOver t.last.place t.last.section.offset)
+    ended_of t (Err (refused_there refusal.InputOver t.last.place t.last.section.offset))
 by_seen (Unreadable fault offset) room t =
-    ended_of t (outcome.Refused (refusal.Unreadable fault) (place t.sections) offset)
+    ended_of t (Err (refused_there (refusal.Unreadable fault) (place t.sections) offset))
 
 -- one turn
 unfoldable pub turn_of : List ℕ → Room → Tally → Tally
 turn_of file room t = by_seen (seen file t.reading) room (fresh_of t)
 
 -- whether a row is all that comes of what is seen: with room for it, and no submessage completed
-unfoldable pub row_only : Room → Standing → Seen → Only
+unfoldable pub row_only : Room → Standing → Seen → Option (Section × Reading)
 row_only room at (Passes s next) =
-    pick (leb room.rows at.sections) More
-    (pick (completes at.reading.order s.number) More (Row s next))
-row_only room at (Closes s next) = More
-row_only room at (Misplaced s) = More
-row_only room at (NoGrid s) = More
-row_only room at Clean = More
-row_only room at InputOver = More
-row_only room at (Unreadable fault offset) = More
+    pick (leb room.rows at.sections) None
+    (pick (completes at.reading.order s.number) None (Some (s, next)))
+row_only room at (Closes s next) = None
+row_only room at (Misplaced s) = None
+row_only room at (NoGrid s) = None
+row_only room at Clean = None
+row_only room at InputOver = None
+row_only room at (Unreadable fault offset) = None
 
 -- a tally, and the section table
 pub record Stepped : Type 0 where
   pub tally : Tally
   pub rows : List ℕ
 
-abbrev pub onward : Only → Stepped → Stepped → Stepped
-onward (Row s next) on here = on
-onward More on here = here
+abbrev pub onward : Option (Section × Reading) → Stepped → Stepped → Stepped
+onward (Some (s, next)) on here = on
+onward None on here = here
 
 -- turns as long as a row is all that comes of one, so many at most
 unfoldable pub steps_of : List ℕ → Room → ℕ → Tally → List ℕ → Stepped
@@ -274,15 +266,15 @@ step_of file lines t rows = steps_of file (room_of (length rows) lines) (suc (le
 unfoldable pub begun_of : ℕ → Tally
 begun_of octets =
     pick (ltb most_octets octets)
-    (ended_of unstarted (outcome.Refused refusal.FileTooLong (place 0) (record { 0 = 0 })))
+    (ended_of unstarted (Err (refused_there refusal.FileTooLong (place 0) (record { 0 = 0 }))))
     unstarted
 
--- the counts and the outcome of a walk that has ended
-abbrev pub concluded_of : Tally → Answer
-concluded_of t =
+-- the counts and the outcome of a walk that has ended so
+abbrev pub concluded_of : Tally → Outcome → Answer
+concluded_of t outcome =
     record {
       sections = t.sections;
       submessages = t.lines;
       messages = t.force.message;
-      outcome = t.outcome;
+      outcome = outcome;
     }

@@ -6,7 +6,7 @@ ghost use Rattle.walk.specs.Turns.{rows_after, lines_after, row_only, step_of, c
 
 use crate::tally::{Tally, begin, resumed, standing_of, turn};
 use framing::Section;
-use index::{Line, Listed, LocalUsePlace, Outcome, Room};
+use index::{Line, Listed, Outcome, Room};
 use order::{Place, completing};
 use reading::{Reading, Seen, glance};
 use sections::LocalUse;
@@ -32,30 +32,23 @@ fn put_passed(rows: &mut [u64], passed: bool, s: Listed)
     }
 }
 
-// What is seen: a section that passes, whose row is all that comes of it; or more.
-#[derive(Clone, Copy)]
-enum Only {
-    Row(Section, Reading),
-    More,
-}
-
 // A row is all where there is room for it, and no submessage is completed.
-fn row_only(room: Room, at: Standing, seen: Seen) -> Only
+fn row_only(room: Room, at: Standing, seen: Seen) -> Option<(Section, Reading)>
     ensures { result ≡ row_only room at seen }
 {
     match seen {
         Seen::Passes(section, next) => {
             if room.rows <= at.sections {
-                return Only::More;
+                return None;
             }
             let reading = at.reading;
             let order = reading.order;
             if completing(order, section.number) {
-                return Only::More;
+                return None;
             }
-            Only::Row(section, next)
+            Some((section, next))
         }
-        _ => Only::More,
+        _ => None,
     }
 }
 
@@ -83,7 +76,7 @@ fn step(file: &[u8], rows: &mut [u64], lines: usize, before: Tally) -> Tally
         let seen = glance(file, at.reading);
         let only = row_only(room, at, seen);
         match only {
-            Only::Row(section, next) => {
+            Some((section, next)) => {
                 put_row(rows, at.sections, section);
                 let here = Place(at.sections);
                 at = passed_row(at, section, next);
@@ -91,14 +84,14 @@ fn step(file: &[u8], rows: &mut [u64], lines: usize, before: Tally) -> Tally
                 if LocalUse::NUMBER < section.number {
                     places[section.number as usize] = here;
                 } else if section.number == LocalUse::NUMBER {
-                    local = LocalUsePlace::At(here);
+                    local = Some(here);
                 } else {
                     span = span_after(span, section, next.cursor);
                     places[section.number as usize] = here;
                 }
             }
-            Only::More => {
-                let next = turn(room, resumed(before, at, span, local, places), seen);
+            None => {
+                let next = turn(room, resumed(at, span, local, places), seen);
                 let last = next.last;
                 put_passed(rows, next.passed, last);
                 return next;
@@ -107,12 +100,11 @@ fn step(file: &[u8], rows: &mut [u64], lines: usize, before: Tally) -> Tally
     }
 }
 
-// The answer of a walk that has ended.
-fn conclude(t: Tally) -> Answer
-    ensures { result ≡ concluded_of t }
+// The answer of a walk that has ended so.
+fn conclude(t: Tally, outcome: Outcome) -> Answer
+    ensures { result ≡ concluded_of t outcome }
 {
     let force = t.force;
-    let outcome = t.outcome;
     Answer {
         sections: t.sections,
         submessages: t.lines,
@@ -122,10 +114,10 @@ fn conclude(t: Tally) -> Answer
 }
 
 // Stores a line, if one is due.
-fn put_line(lines: &mut [Line], due: bool, slot: usize, line: Line)
-    ensures { lines.new ≡ lines_after due slot line lines.old }
+fn put_line(lines: &mut [Line], due: Option<(usize, Line)>)
+    ensures { lines.new ≡ lines_after due lines.old }
 {
-    if due {
+    if let Some((slot, line)) = due {
         if slot < lines.len() {
             lines[slot] = line;
         }
@@ -145,9 +137,13 @@ pub fn walk(file: &[u8], rows: &mut [u64], lines: &mut [Line]) -> Answer
 {
     let room = lines.len();
     let mut t = begin(file);
-    while t.going {
-        t = step(file, &mut *rows, room, t);
-        put_line(&mut *lines, t.due, t.slot, t.line);
+    loop {
+        match t.ended {
+            Some(outcome) => return conclude(t, outcome),
+            None => {
+                t = step(file, &mut *rows, room, t);
+                put_line(&mut *lines, t.due);
+            }
+        }
     }
-    conclude(t)
 }

@@ -7,12 +7,12 @@ ghost use Rattle.walk.specs.Turns.{taken_of, closed_of, misplaced_of, by_seen};
 
 use framing::{Offset, Section};
 use index::{
-    Force, Line, Listed, LocalUsePlace, MOST_OCTETS, MessageEnd, Outcome, Refusal, Room, Span,
-    in_force, line_of, opened, unlisted, with_span, with_submessage,
+    Force, KEPT, Line, Listed, MOST_OCTETS, Outcome, Refusal, Refused, Room, Span, in_force,
+    line_of, opened, unlisted, with_span, with_submessage,
 };
 use order::{Place, completing};
 use reading::{Reading, Seen, start};
-use standing::{KEPT, Standing, one_more, span_after};
+use standing::{Standing, one_more, span_after};
 
 #[derive(Clone, Copy)]
 pub(crate) struct Tally {
@@ -22,59 +22,38 @@ pub(crate) struct Tally {
     pub sections: u64,
     pub lines: u64,
     pub force: Force,
-    // The section passed last, and whether this turn passed it: its row is due.
+    // The section passed last, which a refusal may name turns later, and whether this turn passed
+    // it: its row is due. That is a flag, for an Option of the row would hold the section twice.
     pub last: Listed,
     pub passed: bool,
-    // Whether a line is due, its place in the table, and the line.
-    pub due: bool,
-    pub slot: usize,
-    pub line: Line,
-    // Whether the walk goes on; if not, how it ended.
-    pub going: bool,
-    pub outcome: Outcome,
+    // The line that is due, behind its place in the table.
+    pub due: Option<(usize, Line)>,
+    // How the walk ended; none while it goes on.
+    pub ended: Option<Outcome>,
 }
 
 // Before the first section.
 fn unstarted() -> Tally
     ensures { result ≡ unstarted }
 {
-    let force = opened(0);
     Tally {
         reading: start(),
         sections: 0,
         lines: 0,
-        force,
+        force: opened(0),
         last: unlisted(),
         passed: false,
-        due: false,
-        slot: 0,
-        line: line_of(force, MessageEnd::GoesOn),
-        going: true,
-        outcome: Outcome::Clean,
+        due: None,
+        ended: None,
     }
 }
 
 // The walk ends.
-fn ended(t: Tally, outcome: Outcome) -> Tally
+fn ended(mut t: Tally, outcome: Outcome) -> Tally
     ensures { result ≡ ended_of t outcome }
 {
-    let reading = t.reading;
-    let force = t.force;
-    let last = t.last;
-    let line = t.line;
-    Tally {
-        reading,
-        sections: t.sections,
-        lines: t.lines,
-        force,
-        last,
-        passed: t.passed,
-        due: t.due,
-        slot: t.slot,
-        line,
-        going: false,
-        outcome,
-    }
+    t.ended = Some(outcome);
+    t
 }
 
 // .. with a refusal of the section in hand.
@@ -82,7 +61,14 @@ fn refused(t: Tally, why: Refusal, section: Section) -> Tally
     ensures { result ≡ refused_of t why section }
 {
     let offset = section.offset;
-    ended(t, Outcome::Refused(why, Place(t.sections), offset))
+    ended(
+        t,
+        Err(Refused {
+            why,
+            place: Place(t.sections),
+            offset,
+        }),
+    )
 }
 
 // Before the first turn: a file over 2^40 octets is refused. That it is octets is said for the loop,
@@ -94,7 +80,11 @@ pub(crate) fn begin(file: &[u8]) -> Tally
     if MOST_OCTETS < file.len() as u64 {
         return ended(
             unstarted(),
-            Outcome::Refused(Refusal::FileTooLong, Place(0), Offset(0)),
+            Err(Refused {
+                why: Refusal::FileTooLong,
+                place: Place(0),
+                offset: Offset(0),
+            }),
         );
     }
     unstarted()
@@ -117,20 +107,17 @@ pub(crate) fn standing_of(t: Tally) -> Standing
     }
 }
 
-// A turn begins where a walk stands now, with this in force: nothing is due yet.
+// A turn begins where a walk stands that goes on, with this in force: nothing is due yet.
 pub(crate) fn resumed(
-    t: Tally,
     at: Standing,
     span: Span,
-    local: LocalUsePlace,
+    local: Option<Place>,
     places: [Place; KEPT],
 ) -> Tally
-    ensures { result ≡ resumed_of t at span local places }
+    ensures { result ≡ resumed_of at span local places }
 {
     let reading = at.reading;
     let last = at.last;
-    let line = t.line;
-    let outcome = t.outcome;
     Tally {
         reading,
         sections: at.sections,
@@ -144,11 +131,8 @@ pub(crate) fn resumed(
         },
         last,
         passed: false,
-        due: false,
-        slot: t.slot,
-        line,
-        going: t.going,
-        outcome,
+        due: None,
+        ended: None,
     }
 }
 
@@ -158,10 +142,8 @@ fn told(mut t: Tally) -> Tally
 {
     let force = t.force;
     t.force = with_submessage(force, one_more(force.submessage));
-    t.due = true;
-    t.slot = t.lines as usize;
+    t.due = Some((t.lines as usize, line_of(force, None)));
     t.lines = one_more(t.lines);
-    t.line = line_of(force, MessageEnd::GoesOn);
     t
 }
 
@@ -228,11 +210,8 @@ fn closed(room: Room, t: Tally, end: Section, next: Reading) -> Tally
             section: end,
         },
         passed: true,
-        due: true,
-        slot: t.lines as usize,
-        line: line_of(force, MessageEnd::ClosedAt(place)),
-        going: t.going,
-        outcome: Outcome::Clean,
+        due: Some((t.lines as usize, line_of(force, Some(place)))),
+        ended: None,
     }
 }
 
@@ -260,17 +239,28 @@ pub(crate) fn turn(room: Room, t: Tally, seen: Seen) -> Tally
         Seen::Closes(section, next) => closed(room, t, section, next),
         Seen::Misplaced(section) => misplaced(room, t, section),
         Seen::NoGrid(section) => refused(t, Refusal::NoGrid(section.number), section),
-        Seen::Clean => ended(t, Outcome::Clean),
+        Seen::Clean => ended(t, Ok(())),
         Seen::InputOver => {
             let last = t.last;
             let section = last.section;
             let place = last.place;
             let offset = section.offset;
-            ended(t, Outcome::Refused(Refusal::InputOver, place, offset))
+            ended(
+                t,
+                Err(Refused {
+                    why: Refusal::InputOver,
+                    place,
+                    offset,
+                }),
+            )
         }
         Seen::Unreadable(fault, offset) => ended(
             t,
-            Outcome::Refused(Refusal::Unreadable(fault), Place(t.sections), offset),
+            Err(Refused {
+                why: Refusal::Unreadable(fault),
+                place: Place(t.sections),
+                offset,
+            }),
         ),
     }
 }

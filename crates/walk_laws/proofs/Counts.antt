@@ -1,4 +1,5 @@
 -- How many sections and lines are told, where lines end, and what the tables' room changes.
+use Rattle.std.specs.Prelude.{Option, Some, None}
 use Prim.Native.Nat.{ℕ, suc, ◌+◌, ◌-◌, ◌≤◌}
 use native.Mathlib.Omega.{arith}
 use native.Mathlib.Nat.{sub-zero}
@@ -12,8 +13,6 @@ use Rattle.framing.specs.declared.read.Section.{Section}
 use Rattle.framing.proofs.OneRead.{reads_as, goes}
 use Rattle.order.specs.Order.{is_between}
 use Rattle.order.specs.declared.Order.TheVariants.{AfterData}
-use Rattle.index.specs.declared.line.MessageEnd.{MessageEnd}
-use Rattle.index.specs.declared.line.MessageEnd.TheVariants.{GoesOn, ClosedAt}
 use Rattle.index.specs.declared.line.Line.{Line}
 use Rattle.index.specs.Numbers.{end_of}
 use Rattle.index.specs.declared.numbers.End.{End}
@@ -52,6 +51,7 @@ use Rattle.walk_laws.proofs.OneRead.{section_there}
 use Rattle.walk_laws.proofs.WalksTo.{WalksTo, from_start, step_on, comes_walks_to}
 use Rattle.walk_laws.proofs.Passing.{Way, within, gone_further, shut, Left, nothing, one_line, Passing, passing, halting}
 use Rattle.walk_laws.proofs.Induction.{each_stand, of_walk_lem}
+use Rattle.order.specs.declared.Place.{Place}
 
 -- no more lines than sections, and one fewer inside a message
 pub record Ample (r : Reached) : Type 0 where
@@ -152,18 +152,18 @@ within_room room file = (
         omega arith)
 
 -- a line's end, among sections that are told from a place on
-abbrev EndsIn : ℕ → List Section → MessageEnd → Type 0
-EndsIn from sections GoesOn = Unit
-EndsIn from sections (ClosedAt p) = (from ≤ p.0) × (number_at sections (p.0 - from) ≡ 8)
+abbrev EndsIn : ℕ → List Section → Option Place → Type 0
+EndsIn from sections None = Unit
+EndsIn from sections (Some p) = (from ≤ p.0) × (number_at sections (p.0 - from) ≡ 8)
 
 pub every_map : {A : Type 0} {So Then : A → Type 0} (l : List A) → ((a : A) → So a → Then a) → Every So l → Every Then l
 every_map [] f h = tt
 every_map (a ∷ l) f h = (f a h.0, every_map l f h.1)
 
-one_earlier : (from : ℕ) (s : Section) (sections : List Section) (end : MessageEnd) → EndsIn (from + 1) sections end
+one_earlier : (from : ℕ) (s : Section) (sections : List Section) (end : Option Place) → EndsIn (from + 1) sections end
     → EndsIn from (s ∷ sections) end
-one_earlier from s sections GoesOn so = tt
-one_earlier from s sections (ClosedAt p) (low, eight) =
+one_earlier from s sections None so = tt
+one_earlier from s sections (Some p) (low, eight) =
     let e : suc (p.0 - (from + 1)) ≡ p.0 - from = omega arith in
     (omega arith, subst (λ (k : ℕ). number_at (s ∷ sections) k ≡ 8) e eight)
 
@@ -181,12 +181,12 @@ ends_are_told room file =
     (subst (λ (k : ℕ). Every (λ line. EndsIn k later.sections line.end) later.lines) p.one so)))
     0 0 (at_start file)))
   where
-    at_0 : (end : MessageEnd) → EndsIn 0 (on room file 0 0 (at_start file)).sections end
+    at_0 : (end : Option Place) → EndsIn 0 (on room file 0 0 (at_start file)).sections end
         → EndIsTold (on room file 0 0 (at_start file)).sections end
-    at_0 GoesOn so = tt
-    at_0 (ClosedAt p) (low, eight) = rw sub-zero at eight
+    at_0 None so = tt
+    at_0 (Some p) (low, eight) = rw sub-zero at eight
 
-    goes_on : (from : ℕ) (sections : List Section) (end : MessageEnd) → end ≡ GoesOn → EndsIn from sections end
+    goes_on : (from : ℕ) (sections : List Section) (end : Option Place) → end ≡ None → EndsIn from sections end
     goes_on from sections end e = subst (EndsIn from sections) (sym e) tt
 
     left : (r : Reached) (lines : List Line) → Left r lines → Every (λ line. EndsIn r.sections [] line.end) lines

@@ -1,4 +1,5 @@
 -- A property of what a walk tells, from every stand on: by its end, a refused section, and a passed one.
+use Rattle.std.specs.Prelude.{Err}
 use Prim.Native.Nat.{ℕ, zero, suc, ◌+◌, ◌-◌, ◌<◌}
 use native.Mathlib.Omega.{arith}
 use mathlib.Core.Path.{◌≡◌, refl, sym, ap, subst, ◌∙◌}
@@ -17,16 +18,15 @@ use Rattle.framing.proofs.Listing.{listing_is}
 use Rattle.index.specs.Lines.{place}
 use Rattle.index.specs.declared.line.Line.{Line}
 use Rattle.index.specs.declared.refusal.Refusal.{Refusal}
-use Rattle.index.specs.declared.refusal.Outcome.{Outcome}
-use Rattle.index.specs.declared.refusal.Outcome.TheVariants as outcome
 use Rattle.index.specs.declared.bounds.Room.{Room}
 use Rattle.index.specs.Walk.{Reached, at_start, Judgement, stops, passes, judgement, Told, ends, followed, walked_from, walked}
 use Rattle.walk_laws.proofs.WholeWalk.{on, after, on_next}
+use Rattle.index.specs.Outcome.{Outcome, refused_there}
 
 -- what is told where a section is refused, and where it is passed
 abbrev pub halted : Reached → Section → List Line → Refusal → Told
 halted r s lines why =
-    record { sections = []; lines = lines; messages = 0; outcome = outcome.Refused why (place r.sections) s.offset }
+    record { sections = []; lines = lines; messages = 0; outcome = Err (refused_there why (place r.sections) s.offset) }
 
 abbrev pub gone : Section → List Line → ℕ → Told → Told
 gone s lines closed later =

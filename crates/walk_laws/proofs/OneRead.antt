@@ -1,4 +1,5 @@
 -- A read is refused, good or over exactly when the rows of the section in hand say so.
+use Rattle.std.specs.Prelude.{Option, Some, None}
 use Prim.Native.Nat.{ℕ, ◌+◌, ◌-◌, ◌≤◌, ◌<◌}
 use native.Mathlib.Omega.{arith}
 use mathlib.Core.Path.{◌≡◌, refl, sym, subst, ◌∙◌}
@@ -10,14 +11,9 @@ use lib.ListN.{length}
 use borrow.Author.Tests.{ltb-true, ltb-false, leb-true, leb-false, eqb-true, eqb-false, lt-ltb, le-ltb, eq-eqb, ne_eqb}
 use Rattle.octets.specs.Words.{Not}
 use Rattle.sections.specs.Kinds.{least_payload_of, least_in, kind_of, kinds}
-use Rattle.sections.specs.declared.kinds.LeastOf.{LeastOf}
-use Rattle.sections.specs.declared.kinds.LeastOf.TheVariants.{Octets, NoHeader}
-use Rattle.sections.specs.declared.kinds.MaybeKind.{MaybeKind}
 use Rattle.framing.specs.Search.{says, IsNextStart, next_start}
 use Rattle.framing.specs.LaidOut.{FirstGrib, section_of, stated_length, stated_number}
 use Rattle.framing.specs.Framing.{refused_at, indicator_at, end_at, is_cut, missing, payload_at, header_at, message_at, read_at}
-use Rattle.framing.specs.declared.search.Found.{Found}
-use Rattle.framing.specs.declared.search.Found.TheVariants.{At, Nowhere}
 use Rattle.framing.specs.declared.read.Section.{Section as Listed}
 use Rattle.framing.specs.declared.read.Fault.{Fault}
 use Rattle.framing.specs.Read.{Read}
@@ -30,6 +26,7 @@ use Rattle.index.specs.Numbers.{fault_number, fault_detail}
 use Rattle.walk_laws.specs.Rows.{Rows, FirstRow}
 use Rattle.walk_laws.specs.ExactlyWhen.{left, edition, total, rows0, HeaderCut, LengthUnder5, NumberNot1To7, payload, PayloadCut, IndicatorCut, least_octets, rows_behind_header, InHand, hand0, hand8, behind_header, NoneInHand, no_start, no_octet, CannotBeRead, WellRead}
 use Rattle.walk_laws.proofs.Rows.{first_same, first_holds}
+use Rattle.sections.specs.declared.kinds.Kind.{Kind}
 
 -- what holds of any offset and rows holds of the section in hand
 pub in_hand_lem : {file : List ℕ} {at rest : ℕ} {So : Listed → ℕ → Rows → Type 0} {A : Type 0}
@@ -78,9 +75,9 @@ module _ (file : List ℕ) (at rest : ℕ) where
       in_hand_lem (both _ _ p q) (λ here behind rows so. (so.0.0 ∙ sym so.1.0, so.0.1 ∙ sym so.1.1))
 
 -- the sections with a header are 1 to 7
-data Headed (n : ℕ) : LeastOf → Type 0 where
-  headed : {least : ℕ} → 1 ≤ n → n ≤ 7 → least_octets n ≡ least → Headed n (Octets least)
-  bare : Not ((1 ≤ n) × (n ≤ 7)) → Headed n NoHeader
+data Headed (n : ℕ) : Option ℕ → Type 0 where
+  headed : {least : ℕ} → 1 ≤ n → n ≤ 7 → least_octets n ≡ least → Headed n (Some least)
+  bare : Not ((1 ≤ n) × (n ≤ 7)) → Headed n None
 
 by_kind : (n : ℕ) → Headed n (least_payload_of n)
 unfolding least_payload_of kind_of kinds
@@ -96,7 +93,7 @@ by_kind n =
     let other = bare (above e0 e1 e2 e3 e4 e5 e6 e7) in
     by_test H (eqb n 8) (λ e. other) λ e. other
   where
-    H : MaybeKind → Type 0
+    H : Option Kind → Type 0
     H kind = Headed n (least_in kind)
 
     above : eqb n 0 ≡ false → eqb n 1 ≡ false → eqb n 2 ≡ false → eqb n 3 ≡ false → eqb n 4 ≡ false → eqb n 5 ≡ false
@@ -188,10 +185,10 @@ module _ (file : List ℕ) (at rest : ℕ) where
           go true p q = eqb-true a b p
           go false p q = let y : ◌≡◌ {A = ℕ} 0 1 = cc in absurd (omega arith)
 
-  tells_message : (found : Found) → rest ≡ 0 → IsNextStart file at found → T (message_at file found)
+  tells_message : (found : Option ℕ) → rest ≡ 0 → IsNextStart file at found → T (message_at file found)
   unfolding message_at
-  tells_message (At g) z first = tells_indicator g z (first_grib file at g first)
-  tells_message Nowhere z none = over (no_start z (λ g from (room, letters). none g from (is_start file g room (says_so file g 71 82 73 66 letters))))
+  tells_message (Some g) z first = tells_indicator g z (first_grib file at g first)
+  tells_message None z none = over (no_start z (λ g from (room, letters). none g from (is_start file g room (says_so file g 71 82 73 66 letters))))
 
   module _ (inside : at < length file) where
     tells_end : rest ≡ 4 → T (end_at file at)
@@ -222,13 +219,13 @@ module _ (file : List ℕ) (at rest : ℕ) where
           let count = missing_none_past (stated_length file at) (left file at) (omega arith) in
           inr (no2, inr (no6, inr (no7, inr ((λ h. omega (arith, h.2)), inl ((six, size, omega arith), refl, count)))))
 
-      tells_payload : (least : LeastOf) → least_payload_of (stated_number file at) ≡ least → Headed (stated_number file at) least
+      tells_payload : (least : Option ℕ) → least_payload_of (stated_number file at) ≡ least → Headed (stated_number file at) least
           → 5 ≤ left file at → 5 ≤ stated_length file at
           → T (payload_at least at (stated_number file at) (stated_length file at) (left file at) rest)
       unfolding payload_at fault_number fault_detail
-      tells_payload NoHeader kind (bare other) l5 n5 =
+      tells_payload None kind (bare other) l5 n5 =
           refuses_here _ (inr ((λ h. omega (arith, h.1)), inr ((λ h. omega arith), inl (other, refl, refl))))
-      tells_payload (Octets least) kind (headed low high same) l5 n5 =
+      tells_payload (Some least) kind (headed low high same) l5 n5 =
           let no2 : Not ((1 ≤ left file at) × (left file at ≤ 4)) = λ h. omega (arith, h.1) in
           let no6 : Not (stated_length file at < 5) = λ h. omega arith in
           let no7 : Not (Not ((1 ≤ stated_number file at) × (stated_number file at ≤ 7))) = λ h. h (low, high) in
@@ -273,8 +270,8 @@ pub record ReadRefused (file : List ℕ) (at rest n offset d : ℕ) : Type 0 whe
   pub detailed : d ≡ fault_detail fault
 
 -- the rows say what is read
-pub refused_there : (file : List ℕ) (at rest n o d : ℕ) → CannotBeRead file at rest n o d → ReadRefused file at rest n o d
-refused_there file at rest n o d v = go (read_at file at rest) refl (tells file at rest)
+pub unreadable_refused : (file : List ℕ) (at rest n o d : ℕ) → CannotBeRead file at rest n o d → ReadRefused file at rest n o d
+unreadable_refused file at rest n o d v = go (read_at file at rest) refl (tells file at rest)
   where
     go : (r : Read) → read_at file at rest ≡ r → Tells file at rest r → ReadRefused file at rest n o d
     go _ e (refuses {fault} {o = o'} u) =

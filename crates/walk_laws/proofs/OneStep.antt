@@ -1,4 +1,5 @@
 -- One read, one judgement and a bare list of numbers, in numbers.
+use Rattle.std.specs.Prelude.{Result, Ok, Err, ⊤}
 use Prim.Native.Nat.{ℕ, ◌+◌, ◌-◌}
 use native.Mathlib.Omega.{arith}
 use mathlib.Core.Path.{◌≡◌, refl, sym, ap, subst, ◌∙◌}
@@ -16,14 +17,14 @@ use Rattle.order.specs.Order.{judged, is_between, then_judged, order_from, order
 use Rattle.order.specs.declared.Order.{Order}
 use Rattle.order.specs.declared.Order.TheVariants.{BetweenMessages}
 use Rattle.order.specs.declared.Judged.{Judged}
-use Rattle.order.specs.declared.Verdict.{Verdict}
-use Rattle.order.specs.declared.Verdict.TheVariants as verdict
 use Rattle.order.proofs.Laws.{Said, said, not_between}
 use Rattle.index.specs.Numbers.{fault_number, fault_detail}
 use Rattle.walk_laws.specs.ExactlyWhen.{CannotBeRead, WellRead, NoneInHand, CanCome, NoGridYet, ClosesMessage, order_after}
 use Rattle.walk_laws.specs.OneStep.{a_section, no_input, refused_by, read_numbers, fits_before, judged_numbers, JudgedByRows, OrderEnd, order_end, order_end_of, ComeInOrder, no_number, one_more, OrderGiven, in_order, over_inside, misplaced_there, no_grid_there, ReadByRows, OneStepExactlyWhen}
-use Rattle.walk_laws.proofs.OneRead.{Tells, refuses, reads, over, tells, refused_there, section_there, none_read}
+use Rattle.walk_laws.proofs.OneRead.{Tells, refuses, reads, over, tells, unreadable_refused, section_there, none_read}
 use Rattle.walk_laws.proofs.OneSection.{Stands, fits, closes, misplaced, no_grid, stands}
+use Rattle.order.specs.declared.Disorder.TheVariants.{InputOver, Misplaced, NoGrid}
+use Rattle.order.specs.declared.Disorder.{Disorder}
 
 pub one_read : (file : List ℕ) (at rest : ℕ) → ReadByRows file at rest (read_numbers (read_at file at rest))
 unfolding read_numbers
@@ -32,7 +33,7 @@ one_read file at rest =
       refuses = λ n offset d. (
         refused (read_at file at rest) (tells file at rest),
         λ u.
-            let k = refused_there file at rest n offset d u in
+            let k = unreadable_refused file at rest n offset d u in
             ap read_numbers k.refuses ∙ rw (← k.numbered, ← k.detailed) refl,
       );
       reads = λ number offset octets next rest'. (
@@ -114,7 +115,7 @@ one_judgement order number = go (judged order number) (stands order number)
         }
 
 -- a number that can come is passed
-can_pass : (order : Order) (n place : ℕ) (later : Order → Verdict) → CanCome order n
+can_pass : (order : Order) (n place : ℕ) (later : Order → Result ⊤ Disorder) → CanCome order n
     → then_judged (judged order n) place later ≡ later (order_after n)
 can_pass order n place later can = go (judged order n) (stands order n)
   where
@@ -141,7 +142,7 @@ at_place before after n =
     subst (λ (k : ℕ). get_or (before ++ (n ∷ after)) k 0 ≡ n) (add-zero (length before)) (get_or-append-add before (n ∷ after) 0 0)
 
 -- what is given of a list with these before, by what the order says from there on
-abbrev GivenSo : List ℕ → Verdict → Type 0
+abbrev GivenSo : List ℕ → Result ⊤ Disorder → Type 0
 GivenSo numbers v = let e = order_end_of numbers v in OrderGiven numbers e.outcome e.place e.detail
 
 from_there : (before more : List ℕ) (order : Order) → ComeInOrder before order → GivenSo (before ++ more) (order_from order (length before) more)
@@ -149,7 +150,7 @@ unfolding order_from order_end_of
 from_there before [] order c =
     subst (λ (l : List ℕ). GivenSo l (order_from order (length before) [])) (sym (append-nil before)) (go (is_between order) (said order))
   where
-    go : (t : Bool) → Said order t → GivenSo before (pick t verdict.Clean verdict.InputOver)
+    go : (t : Bool) → Said order t → GivenSo before (pick t (Ok tt) (Err InputOver))
     go true e = in_order (subst (ComeInOrder before) e c)
     go false e = over_inside c e (some c e)
       where
@@ -182,25 +183,25 @@ from_there before (n ∷ more) order c = go (judged order n) (stands order n) re
     go j (closes can grid shut) e later = passed BetweenMessages (rw shut.1 refl) can later
 
 -- and the other way
-ended : {numbers : List ℕ} {order : Order} → ComeInOrder numbers order → order_of numbers ≡ pick (is_between order) verdict.Clean verdict.InputOver
+ended : {numbers : List ℕ} {order : Order} → ComeInOrder numbers order → order_of numbers ≡ pick (is_between order) (Ok tt) (Err InputOver)
 unfolding order_from
 ended {numbers} c = ap order_of (sym (append-nil numbers)) ∙ runs c []
 
-stopped_misplaced : (order : Order) (n place : ℕ) (later : Order → Verdict) → Not (CanCome order n) → Not (NoGridYet order n)
-    → then_judged (judged order n) place later ≡ verdict.Misplaced (record { 0 = place })
+stopped_misplaced : (order : Order) (n place : ℕ) (later : Order → Result ⊤ Disorder) → Not (CanCome order n) → Not (NoGridYet order n)
+    → then_judged (judged order n) place later ≡ Err (Misplaced (record { 0 = place }))
 stopped_misplaced order n place later cannot no-12 = go (judged order n) (stands order n)
   where
-    go : (j : Judged) → Stands order n j → then_judged j place later ≡ verdict.Misplaced (record { 0 = place })
+    go : (j : Judged) → Stands order n j → then_judged j place later ≡ Err (Misplaced (record { 0 = place }))
     go _ (fits leads can grid ajar) = absurd (cannot can)
     go _ (closes can grid shut) = absurd (cannot can)
     go _ (misplaced can't grid) = refl
     go _ (no_grid grid) = absurd (no-12 grid)
 
-stopped_no_grid : (order : Order) (n place : ℕ) (later : Order → Verdict) → NoGridYet order n
-    → then_judged (judged order n) place later ≡ verdict.NoGrid (record { 0 = place })
+stopped_no_grid : (order : Order) (n place : ℕ) (later : Order → Result ⊤ Disorder) → NoGridYet order n
+    → then_judged (judged order n) place later ≡ Err (NoGrid (record { 0 = place }))
 stopped_no_grid order n place later none = go (judged order n) (stands order n)
   where
-    go : (j : Judged) → Stands order n j → then_judged j place later ≡ verdict.NoGrid (record { 0 = place })
+    go : (j : Judged) → Stands order n j → then_judged j place later ≡ Err (NoGrid (record { 0 = place }))
     go _ (fits leads can grid ajar) = absurd (grid none)
     go _ (closes can grid shut) = absurd (grid none)
     go _ (misplaced can't grid) = absurd (grid none)

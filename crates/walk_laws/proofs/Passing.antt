@@ -1,4 +1,5 @@
 -- What is so of a section that is passed.
+use Rattle.std.specs.Prelude.{Some, None}
 use Prim.Native.Nat.{ℕ, ◌+◌, ◌≤◌, ◌<◌}
 use native.Mathlib.Omega.{arith}
 use mathlib.Core.Path.{◌≡◌, refl, subst}
@@ -15,7 +16,6 @@ use Rattle.order.specs.declared.Judged.{Judged}
 use Rattle.order.specs.declared.Judged.TheVariants as says
 use Rattle.order.proofs.Laws.{apart, fits_below, fits_open, closes_only, completes_only}
 use Rattle.index.specs.Lines.{place, line_of}
-use Rattle.index.specs.declared.line.MessageEnd.TheVariants.{GoesOn, ClosedAt}
 use Rattle.index.specs.declared.line.Line.{Line}
 use Rattle.index.specs.declared.refusal.Refusal.{Refusal}
 use Rattle.index.specs.declared.bounds.Room.{Room}
@@ -25,16 +25,16 @@ use Rattle.index.specs.Walk.{Reached, Judgement, stops, passes, here, fitted, cl
 pub data Way (r : Reached) (s : Section) : List Line → ℕ → Reached → Type 0 where
   within : {reached : Reached} → s.number < 8 → is_between reached.order ≡ false → Way r s [] 0 reached
   gone_further : {line : Line} {reached : Reached} → s.number < 8 → is_between reached.order ≡ false → r.order ≡ AfterData
-      → line.end ≡ GoesOn
+      → line.end ≡ None
       → Way r s (line ∷ []) 0 reached
   shut : {line : Line} {reached : Reached} → s.number ≡ 8 → is_between reached.order ≡ true → r.order ≡ AfterData
-      → line.end ≡ ClosedAt (place r.sections)
+      → line.end ≡ Some (place r.sections)
       → Way r s (line ∷ []) 1 reached
 
 -- a section that is refused has told a line of a submessage that goes on, or none
 pub data Left (r : Reached) : List Line → Type 0 where
   nothing : Left r []
-  one_line : {line : Line} → r.order ≡ AfterData → line.end ≡ GoesOn → Left r (line ∷ [])
+  one_line : {line : Line} → r.order ≡ AfterData → line.end ≡ None → Left r (line ∷ [])
 
 pub record Halting (room : Room) (r : Reached) (lines : List Line) : Type 0 where
   pub held : r.lines ≤ room.lines → r.lines + length lines ≤ room.lines
@@ -92,12 +92,12 @@ module _ (room : Room) (r : Reached) (s : Section) where
   plain off says.Misplaced e = silent
   plain off says.NoGrid e = silent
 
-  spoken : completes r.order s.number ≡ true → r.lines < room.lines → Halting room r (line_of r.force GoesOn ∷ [])
+  spoken : completes r.order s.number ≡ true → r.lines < room.lines → Halting room r (line_of r.force None ∷ [])
   unfolding line_of
   spoken goes line = record { held = λ h. omega arith; told = one_line (completes_only r.order s.number goes).0 refl }
 
   going : completes r.order s.number ≡ true → r.lines < room.lines → (j : Judged) → judged SubmessageStart s.number ≡ j
-      → P (by_order j room (gone_on r) s (line_of r.force GoesOn ∷ []))
+      → P (by_order j room (gone_on r) s (line_of r.force None ∷ []))
   unfolding by_order fitted closing judgement line_of
   going goes line (says.Fits next) e =
       by_test P (leb room.rows r.sections) (λ f. spoken goes line) λ f.

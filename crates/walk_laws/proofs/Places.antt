@@ -29,7 +29,7 @@ use Rattle.walk_laws.specs.ExactlyWhen.{
 }
 use Rattle.walk_laws.specs.Rows.{FirstRow}
 use Rattle.walk_laws.specs.Laws.{PlaceIsCount, offset_at, InputOverAtLast}
-use Rattle.walk_laws.proofs.OneRead.{refused_there, section_there, none_read}
+use Rattle.walk_laws.proofs.OneRead.{unreadable_refused, section_there, none_read}
 use Rattle.walk_laws.proofs.OneSection.{stopped_there}
 use Rattle.walk_laws.proofs.WalksTo.{WalksTo, from_start, step_on, comes_walks_to}
 use Rattle.walk_laws.proofs.WholeWalk.{on, after, on_next, walked_on, walk_refused_exactly_when}
@@ -107,7 +107,7 @@ place_of : (room : Room) (file : List ℕ) (n p o d : ℕ) → Given room file n
     → p ≡ length (walked room file).sections
 place_of room file _ _ _ _ (too_long long) one ten = absurd (one refl)
 place_of room file n _ o d (unread {b} short c u) one ten =
-    let k = refused_there file b.at b.rest n o d u in
+    let k = unreadable_refused file b.at b.rest n o d u in
     let at = comes_walks_to c in
     sym (ap (λ (b : Stand). b.sections) at.stood) ∙ all_counted room file short at.reaches (refused_at k.fault o) k.refuses refl
 place_of room file _ _ _ _ (input_over short c none other last) one ten = absurd (ten refl)

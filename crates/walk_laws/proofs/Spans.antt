@@ -1,5 +1,6 @@
 -- Where a line's message stands: its section 0 is told where "GRIB" stands, and from there to a section 8 each section takes its length
 -- from what the total length says is to come.
+use Rattle.std.specs.Prelude.{Option, Some, None}
 use Prim.Native.Nat.{ℕ, zero, suc, ◌+◌, ◌<◌}
 use native.Mathlib.Omega.{arith}
 use mathlib.Core.Path.{◌≡◌, refl, sym, ap, ◌∙◌}
@@ -11,8 +12,6 @@ use Rattle.octets.specs.Words.{Not}
 use Rattle.framing.specs.LaidOut.{HasGrib, section_of, LaidOut, nothing_more, indicator_next, end_next, headed_next}
 use Rattle.framing.specs.declared.read.Section.{Section}
 use Rattle.order.specs.declared.Place.{Place}
-use Rattle.index.specs.declared.line.MessageEnd.{MessageEnd}
-use Rattle.index.specs.declared.line.MessageEnd.TheVariants.{GoesOn, ClosedAt}
 use Rattle.index.specs.declared.line.Line.{Line}
 use Rattle.index.specs.Walk.{walked}
 use Rattle.index.specs.Pins.{told_at, ToldAt, PinnedLine}
@@ -91,9 +90,9 @@ told_8 (s ∷ l) zero number = (omega arith, number)
 told_8 (s ∷ l) (suc k) number = let there = (told_8 l k number).0 in (omega arith, number)
 
 -- the place at which a message is closed
-abbrev closed_place : MessageEnd → ℕ
-closed_place GoesOn = 0
-closed_place (ClosedAt p) = p.0
+abbrev closed_place : Option Place → ℕ
+closed_place None = 0
+closed_place (Some p) = p.0
 
 module _ (file : List ℕ) (told : List Section) (laid : LaidOut file 0 0 told) (line : Line) (pins : PinnedLine file told line) where
   -- its message starts at its section 0
@@ -110,7 +109,7 @@ module _ (file : List ℕ) (told : List Section) (laid : LaidOut file 0 0 told) 
       }
 
   -- a line that is closed is closed by the section 8 right behind its section 7
-  right_behind : (p : Place) → line.end ≡ ClosedAt p → ToldAt told 8 (line.values.0 + 1) × (p.0 ≡ line.values.0 + 1)
+  right_behind : (p : Place) → line.end ≡ Some p → ToldAt told 8 (line.values.0 + 1) × (p.0 ≡ line.values.0 + 1)
   right_behind p e = go (eqb (told_at told (line.values.0 + 1)).number 8) refl
     where
       go : (t : Bool) → eqb (told_at told (line.values.0 + 1)).number 8 ≡ t

@@ -1,5 +1,6 @@
 -- What lent tables change: of what a walk tells with tables that can't be full, it tells the beginning, and all of it where they hold
 -- that. Unlimited tables can't be full.
+use Rattle.std.specs.Prelude.{Some, None}
 use Prim.Native.Nat.{ℕ, zero, suc, ◌+◌, ◌≤◌, ◌<◌}
 use native.Mathlib.Omega.{arith}
 use mathlib.Core.Path.{◌≡◌, refl, sym, ap, ◌∙◌}
@@ -21,7 +22,6 @@ use Rattle.order.specs.declared.Judged.{Judged}
 use Rattle.order.specs.declared.Judged.TheVariants as says
 use Rattle.order.proofs.Laws.{closes_only}
 use Rattle.index.specs.Lines.{place, line_of}
-use Rattle.index.specs.declared.line.MessageEnd.TheVariants.{GoesOn, ClosedAt}
 use Rattle.index.specs.declared.line.Line.{Line}
 use Rattle.index.specs.declared.refusal.Refusal.{Refusal}
 use Rattle.index.specs.declared.refusal.Refusal.TheVariants as refusal
@@ -89,18 +89,18 @@ module _ (room wide : Room) (r : Reached) (s : Section) (rows : r.sections < wid
   plain (says.Fits next) = rw (lt-leb wide.rows r.sections rows) (by_rows room r [] [] refl same)
   plain says.Closes =
       rw (lt-leb wide.rows r.sections rows, lt-leb wide.lines r.lines lines)
-      (by_rows room r [] (line_of r.force (ClosedAt (place r.sections)) ∷ []) refl (by_lines room r _ (λ held. let h = held.1 in omega arith) same))
+      (by_rows room r [] (line_of r.force (Some (place r.sections)) ∷ []) refl (by_lines room r _ (λ held. let h = held.1 in omega arith) same))
   plain says.Misplaced = same
   plain says.NoGrid = same
 
   -- a submessage is complete, and its message goes on
   going : (j : Judged) → judged SubmessageStart s.number ≡ j
-      → Beside room r (by_order j wide (gone_on r) s (line_of r.force GoesOn ∷ []))
+      → Beside room r (by_order j wide (gone_on r) s (line_of r.force None ∷ []))
       (pick (leb room.lines r.lines) (stops [] refusal.SubmessageTableFull)
-      (by_order j room (gone_on r) s (line_of r.force GoesOn ∷ [])))
+      (by_order j room (gone_on r) s (line_of r.force None ∷ [])))
   unfolding by_order fitted
   going (says.Fits next) e =
-      rw (lt-leb wide.rows r.sections rows) (by_lines room r _ (λ held. let h = held.1 in omega arith) (by_rows room r (line_of r.force GoesOn ∷ []) [] refl same))
+      rw (lt-leb wide.rows r.sections rows) (by_lines room r _ (λ held. let h = held.1 in omega arith) (by_rows room r (line_of r.force None ∷ []) [] refl same))
   going says.Closes e =
       let z = (closes_only SubmessageStart s.number e).0 in let never : ◌≡◌ {A = ℕ} 0 1 = cc in absurd (omega arith)
   going says.Misplaced e = by_lines room r _ (λ held. omega arith) same
@@ -114,11 +114,11 @@ module _ (room wide : Room) (r : Reached) (s : Section) (rows : r.sections < wid
           → Beside room r
           (pick t
           (pick (leb wide.lines r.lines) (stops [] refusal.SubmessageTableFull)
-          (by_order (judged SubmessageStart s.number) wide (gone_on r) s (line_of r.force GoesOn ∷ [])))
+          (by_order (judged SubmessageStart s.number) wide (gone_on r) s (line_of r.force None ∷ [])))
           (by_order (judged r.order s.number) wide r s []))
           (pick t
           (pick (leb room.lines r.lines) (stops [] refusal.SubmessageTableFull)
-          (by_order (judged SubmessageStart s.number) room (gone_on r) s (line_of r.force GoesOn ∷ [])))
+          (by_order (judged SubmessageStart s.number) room (gone_on r) s (line_of r.force None ∷ [])))
           (by_order (judged r.order s.number) room r s []))
       go true = rw (lt-leb wide.lines r.lines lines) (going (judged SubmessageStart s.number) refl)
       go false = plain (judged r.order s.number)

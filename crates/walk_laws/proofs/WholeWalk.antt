@@ -1,4 +1,5 @@
 -- A walk is refused or ends clean exactly when it comes to a read at which the rows, or the input's end, say so.
+use Rattle.std.specs.Prelude.{Ok, Err}
 use Prim.Native.Nat.{ℕ, zero, suc, ◌+◌, ◌-◌, ◌≤◌, ◌<◌}
 use native.Mathlib.Omega.{arith}
 use mathlib.Core.Path.{◌≡◌, refl, sym, ap, subst, ◌∙◌}
@@ -24,8 +25,6 @@ use Rattle.index.specs.Numbers.{refusal_number, refusal_detail, end_of}
 use Rattle.index.specs.declared.numbers.End.{End}
 use Rattle.index.specs.declared.refusal.Refusal.{Refusal}
 use Rattle.index.specs.declared.refusal.Refusal.TheVariants as refusal
-use Rattle.index.specs.declared.refusal.Outcome.{Outcome}
-use Rattle.index.specs.declared.refusal.Outcome.TheVariants as outcome
 use Rattle.index.specs.declared.bounds.Room.{Room}
 use Rattle.index.specs.Walk.{Reached, at_start, Judgement, judgement, Told, ends, concluded, followed, walked_from, walked}
 use Rattle.index.proofs.Rows.{fault_number_lem}
@@ -44,9 +43,10 @@ use Rattle.walk_laws.specs.ExactlyWhen.{
   WalkRefusedExactlyWhen,
   WalkCleanExactlyWhen,
 }
-use Rattle.walk_laws.proofs.OneRead.{Tells, refuses, reads, over, tells, refused_there, section_there, none_read}
+use Rattle.walk_laws.proofs.OneRead.{Tells, refuses, reads, over, tells, unreadable_refused, section_there, none_read}
 use Rattle.walk_laws.proofs.OneSection.{Judges, halts, goes as passes_on, judges, stopped_there}
 use Rattle.walk_laws.proofs.WalksTo.{WalksTo, from_start, step_on, walks_to_comes, comes_walks_to, last_there, read_so}
+use Rattle.index.specs.Outcome.{Outcome, refused_there}
 
 -- the walk from a place and a rest on
 unfoldable pub on : Room → List ℕ → ℕ → ℕ → Reached → Told
@@ -89,15 +89,15 @@ walks_to_on room file short (step_on {at} {rest} {r = r} {s = s} {cursor = curso
 module _ (room : Room) (file : List ℕ) (short : length file ≤ 1099511627776) where
   -- how a walk may end
   abbrev Ends : Outcome → Type 0
-  Ends outcome.Clean = EndsClean room file
-  Ends (outcome.Refused why p o) = Given room file (refusal_number why) p.0 o.0 (refusal_detail why)
+  Ends (Ok tt) = EndsClean room file
+  Ends (Err stop) = Given room file (refusal_number stop.why) stop.place.0 stop.offset.0 (refusal_detail stop.why)
 
   over_ends : (at rest : ℕ) (r : Reached) → WalksTo room file at rest r → NoneInHand file at rest → Ends (concluded r list.over)
   unfolding concluded refusal_number refusal_detail
   over_ends at rest r c none = go (is_between r.order) (said r.order)
     where
       go : (t : Bool) → Said r.order t
-          → Ends (pick t outcome.Clean (outcome.Refused refusal.InputOver r.last.place r.last.section.offset))
+          → Ends (pick t (Ok tt) (Err (refused_there refusal.InputOver r.last.place r.last.section.offset)))
       go true e = between short (walks_to_comes c) none e
       go false e = input_over short (walks_to_comes c) none e (last_there c e)
 
@@ -145,10 +145,10 @@ from_1 refusal.SectionTableFull = omega arith
 from_1 refusal.SubmessageTableFull = omega arith
 
 -- an end numbered 0 is a clean one
-pub is_clean : (o : Outcome) → (end_of o).outcome ≡ 0 → o ≡ outcome.Clean
+pub is_clean : (o : Outcome) → (end_of o).outcome ≡ 0 → o ≡ Ok tt
 unfolding end_of
-is_clean outcome.Clean e = refl
-is_clean (outcome.Refused why place offset) e = absurd (omega (arith, from_1 why))
+is_clean (Ok tt) e = refl
+is_clean (Err stop) e = absurd (omega (arith, from_1 stop.why))
 
 -- a refusal's numbers
 abbrev Numbers : Room → List ℕ → End → Type 0
@@ -174,8 +174,8 @@ walk_refused_exactly_when room file n p o d some = (there (ltb 1099511627776 (le
   where
     finish : (x : Outcome) → end_of x ≡ numbers n p o d → (short : length file ≤ 1099511627776) → Ends room file short x
         → Given room file n p o d
-    finish outcome.Clean e short g = absurd (some (sym (ap (λ (e : End). e.outcome) e)))
-    finish (outcome.Refused why p o) e short g = subst (Numbers room file) e g
+    finish (Ok tt) e short g = absurd (some (sym (ap (λ (e : End). e.outcome) e)))
+    finish (Err stop) e short g = subst (Numbers room file) e g
 
     there : (t : Bool) → ltb 1099511627776 (length file) ≡ t → end_of (walked room file).outcome ≡ numbers n p o d
         → Given room file n p o d
@@ -187,7 +187,7 @@ walk_refused_exactly_when room file n p o d some = (there (ltb 1099511627776 (le
     back : (n p o d : ℕ) → Given room file n p o d → end_of (walked room file).outcome ≡ numbers n p o d
     back _ _ _ _ (too_long long) = rw (lt-ltb 1099511627776 (length file) long)
     back n _ o d (unread {b} short c u) =
-        let k = refused_there file b.at b.rest n o d u in
+        let k = unreadable_refused file b.at b.rest n o d u in
         let at = comes_walks_to c in
         ap end_of (at_read room file b.at b.rest at.reached (refused_at k.fault o) short at.reaches k.refuses)
         ∙ same_numbers n _ b.sections _ o _ d _ k.numbered (sym (ap (λ (b : Stand). b.sections) at.stood)) refl k.detailed
@@ -218,10 +218,10 @@ unfolding walked concluded is_between end_of refusal_number
 walk_clean_exactly_when room file = (there (ltb 1099511627776 (length file)) refl, back)
   where
     finish : (x : Outcome) → end_of x ≡ numbers 0 0 0 0 → (short : length file ≤ 1099511627776) → Ends room file short x → EndsClean room file
-    finish outcome.Clean e short g = g
-    finish (outcome.Refused why p o) e short g =
-        let some = from_1 why in
-        let none : refusal_number why ≡ 0 = ap (λ (e : End). e.outcome) e in
+    finish (Ok tt) e short g = g
+    finish (Err stop) e short g =
+        let some = from_1 stop.why in
+        let none : refusal_number stop.why ≡ 0 = ap (λ (e : End). e.outcome) e in
         absurd (omega arith)
 
     there : (t : Bool) → ltb 1099511627776 (length file) ≡ t → end_of (walked room file).outcome ≡ numbers 0 0 0 0 → EndsClean room file

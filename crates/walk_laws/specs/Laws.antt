@@ -3,11 +3,9 @@
 -- counts of an answer are the lengths of what is told, by definition: no statement says so. The
 -- statements are proved in proofs/Messages, Counts, Places and Unlimited.antt, under their names in
 -- small letters.
-use Rattle.std.specs.Prelude.{ℕ, ◌+◌, ◌≤◌, ◌≡◌, List, [], ◌∷◌, ◌++◌, length, get_or}
+use Rattle.std.specs.Prelude.{ℕ, ◌+◌, ◌≤◌, ◌≡◌, List, [], ◌∷◌, ◌++◌, length, get_or, Option, Some, None}
 use Rattle.octets.specs.Words.{Not}
 use Rattle.framing.specs.declared.read.Section.{Section}
-use Rattle.index.specs.declared.line.MessageEnd.{MessageEnd}
-use Rattle.index.specs.declared.line.MessageEnd.TheVariants.{GoesOn, ClosedAt}
 use Rattle.index.specs.declared.line.Line.{Line}
 use Rattle.index.specs.Numbers.{end_of}
 use Rattle.index.specs.Bounds.{unlimited}
@@ -15,6 +13,7 @@ use Rattle.index.specs.declared.bounds.Room.{Room}
 use Rattle.index.specs.Walk.{Told, walked}
 use Rattle.index.specs.Pins.{Every, count_of}
 use Rattle.walk_laws.specs.ExactlyWhen.{total}
+use Rattle.order.specs.declared.Place.{Place}
 
 -- the sum of lengths
 abbrev pub lengths : List Section → ℕ
@@ -75,9 +74,9 @@ NoEndAtPlace0 =
     (room : Room) (file : List ℕ) (k : ℕ) → number_at (walked room file).sections k ≡ 8 → 1 ≤ k
 
 -- behind a line its message goes on, or a section 8 is told that closes it
-abbrev pub EndIsTold : List Section → MessageEnd → Type 0
-EndIsTold told GoesOn = Unit
-EndIsTold told (ClosedAt p) = number_at told p.0 ≡ 8
+abbrev pub EndIsTold : List Section → Option Place → Type 0
+EndIsTold told None = Unit
+EndIsTold told (Some p) = number_at told p.0 ≡ 8
 
 abbrev pub EndsAreTold : Type 0
 EndsAreTold =
@@ -85,9 +84,9 @@ EndsAreTold =
     → Every (λ line. EndIsTold (walked room file).sections line.end) (walked room file).lines
 
 -- as many messages are closed as lines are closed
-abbrev pub closings : MessageEnd → ℕ
-closings GoesOn = 0
-closings (ClosedAt p) = 1
+abbrev pub closings : Option Place → ℕ
+closings None = 0
+closings (Some p) = 1
 
 abbrev pub closers : List Line → ℕ
 closers [] = 0

@@ -1,6 +1,6 @@
 -- One read, one judgement, and a bare list of section numbers, each in numbers and exactly when its
 -- rows say so (01, "Framing", "Order", "Refusal numbers").
-use Rattle.std.specs.Prelude.{ℕ, ◌+◌, ◌-◌, ◌≡◌, List, [], ◌∷◌, ◌++◌, length, get_or}
+use Rattle.std.specs.Prelude.{ℕ, ◌+◌, ◌-◌, ◌≡◌, List, [], ◌∷◌, ◌++◌, length, get_or, Result, Ok, Err, ⊤}
 use Rattle.octets.specs.Words.{Not, Iff}
 use Rattle.framing.specs.Framing.{read_at}
 use Rattle.framing.specs.LaidOut.{section_of}
@@ -11,8 +11,6 @@ use Rattle.order.specs.declared.Order.{Order}
 use Rattle.order.specs.declared.Order.TheVariants.{BetweenMessages}
 use Rattle.order.specs.declared.Judged.{Judged}
 use Rattle.order.specs.declared.Judged.TheVariants as judged
-use Rattle.order.specs.declared.Verdict.{Verdict}
-use Rattle.order.specs.declared.Verdict.TheVariants as verdict
 use Rattle.index.specs.Numbers.{fault_number, fault_detail}
 use Rattle.walk_laws.specs.ExactlyWhen.{
   NoneInHand,
@@ -23,6 +21,8 @@ use Rattle.walk_laws.specs.ExactlyWhen.{
   ClosesMessage,
   order_after,
 }
+use Rattle.order.specs.declared.Disorder.TheVariants.{InputOver, Misplaced, NoGrid}
+use Rattle.order.specs.declared.Disorder.{Disorder}
 
 -- a read: a section's number, offset and length, where the next read is made and with how many
 -- octets of the message to come; the input over; or a refusal's number, offset and detail
@@ -80,11 +80,11 @@ abbrev pub order_end : ℕ → ℕ → ℕ → OrderEnd
 order_end outcome place detail = record { outcome = outcome; place = place; detail = detail }
 
 -- 0 with zeros; 10 has the place of the last number; 11 and 12 that of the misfit, and the number
-unfoldable pub order_end_of : List ℕ → Verdict → OrderEnd
-order_end_of numbers verdict.Clean = order_end 0 0 0
-order_end_of numbers verdict.InputOver = order_end 10 (length numbers - 1) 0
-order_end_of numbers (verdict.Misplaced at) = order_end 11 at.0 (get_or numbers at.0 0)
-order_end_of numbers (verdict.NoGrid at) = order_end 12 at.0 (get_or numbers at.0 0)
+unfoldable pub order_end_of : List ℕ → Result ⊤ Disorder → OrderEnd
+order_end_of numbers (Ok tt) = order_end 0 0 0
+order_end_of numbers (Err InputOver) = order_end 10 (length numbers - 1) 0
+order_end_of numbers (Err (Misplaced at)) = order_end 11 at.0 (get_or numbers at.0 0)
+order_end_of numbers (Err (NoGrid at)) = order_end 12 at.0 (get_or numbers at.0 0)
 
 -- each number can come after those before it, and this is then what was read last
 pub data ComeInOrder : List ℕ → Order → Type 0 where

@@ -2,21 +2,16 @@
 -- and 81, and lines that go on or are closed, with their message's offset and total length, as its
 -- Ticket 7 has them: the starred ones as a single statement over their list, and the others;
 -- proofs/Computed.antt has them by computing.
-use Rattle.std.specs.Prelude.{ℕ, ◌+◌, ◌≡◌, List, [], ◌∷◌, ◌++◌, map, ℤ, pos, neg_ℤ, length, take, drop, replicate}
+use Rattle.std.specs.Prelude.{ℕ, ◌+◌, ◌≡◌, List, [], ◌∷◌, ◌++◌, map, ℤ, pos, neg_ℤ, length, take, drop, replicate, Option, Some, None}
 use Rattle.octets.specs.Signed.{signed_of}
-use Rattle.octets.specs.declared.Signed.{Signed}
-use Rattle.octets.specs.declared.Signed.TheVariants.{Number}
 use Rattle.framing.specs.declared.read.Section.{Section}
 use Rattle.index.specs.Lines.{place, span}
-use Rattle.index.specs.declared.line.LocalUsePlace.{LocalUsePlace}
-use Rattle.index.specs.declared.line.LocalUsePlace.TheVariants.{At, Absent}
-use Rattle.index.specs.declared.line.MessageEnd.{MessageEnd}
-use Rattle.index.specs.declared.line.MessageEnd.TheVariants.{GoesOn, ClosedAt}
 use Rattle.index.specs.declared.line.Line.{Line}
 use Rattle.index.specs.Numbers.{end_of}
 use Rattle.index.specs.declared.numbers.End.{End}
 use Rattle.index.specs.Bounds.{unlimited}
 use Rattle.index.specs.Walk.{Told, walked}
+use Rattle.order.specs.declared.Place.{Place}
 
 -- section 0: "GRIB", 2 reserved, discipline, edition, total length in 8
 abbrev pub sample0 : ℕ → List ℕ
@@ -63,7 +58,7 @@ abbrev pub longer7 : ℕ → List ℕ
 longer7 total = before7 total ++ sample_section 7 5 ++ sample8
 
 -- a line as it is printed: message, submessage, nine places, the message's offset and total length
-abbrev pub line : ℕ → ℕ → ℕ → ℕ → LocalUsePlace → ℕ → ℕ → ℕ → ℕ → ℕ → MessageEnd → ℕ → ℕ → Line
+abbrev pub line : ℕ → ℕ → ℕ → ℕ → Option Place → ℕ → ℕ → ℕ → ℕ → ℕ → Option Place → ℕ → ℕ → Line
 line message submessage zeroth first second third fourth fifth sixth seventh eighth offset total =
     record {
       message = message;
@@ -81,18 +76,18 @@ line message submessage zeroth first second third fourth fifth sixth seventh eig
     }
 
 -- no section 2, and one at a place
-abbrev pub no_local : LocalUsePlace
-no_local = Absent
+abbrev pub no_local : Option Place
+no_local = None
 
-abbrev pub at : ℕ → LocalUsePlace
-at n = At (place n)
+abbrev pub at : ℕ → Option Place
+at n = Some (place n)
 
 -- the message goes on, and a section 8 at a place
-abbrev pub goes_on : MessageEnd
-goes_on = GoesOn
+abbrev pub goes_on : Option Place
+goes_on = None
 
-abbrev pub closed_at : ℕ → MessageEnd
-closed_at n = ClosedAt (place n)
+abbrev pub closed_at : ℕ → Option Place
+closed_at n = Some (place n)
 
 -- outcome, place, offset, detail
 abbrev pub end : ℕ → ℕ → ℕ → ℕ → End
@@ -132,7 +127,7 @@ pub data Asked : Type 0 where
 -- what is answered
 pub data Answered : Type 0 where
   walk : Printed → Answered
-  number : Signed → Answered
+  number : Option ℤ → Answered
 
 -- a file is walked with unlimited room
 unfoldable pub answer : Asked → Answered
@@ -148,7 +143,7 @@ abbrev pub walks : List ℕ → Printed → Sample
 walks octets expected = record { asked = file octets; answered = walk expected }
 
 abbrev pub is : List ℕ → ℤ → Sample
-is octets expected = record { asked = signed octets; answered = number (Number expected) }
+is octets expected = record { asked = signed octets; answered = number (Some expected) }
 
 -- where the sections of A stand, up to its section 6, and up to its section 7
 abbrev pub offsets6 : List ℕ

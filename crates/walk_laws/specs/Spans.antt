@@ -1,11 +1,10 @@
 -- Where a line's message stands (02, Ticket 7: "the line carries its message's octet offset and
 -- total length"), by the file's octets, for any file and any room. The statements are proved in
 -- proofs/Spans.antt, under their names in small letters.
-use Rattle.std.specs.Prelude.{ℕ, ◌+◌, ◌≡◌, List}
+use Rattle.std.specs.Prelude.{ℕ, ◌+◌, ◌≡◌, List, Some}
 use Rattle.framing.specs.LaidOut.{HasGrib, section_of}
 use Rattle.framing.specs.declared.read.Section.{Section}
 use Rattle.order.specs.declared.Place.{Place}
-use Rattle.index.specs.declared.line.MessageEnd.TheVariants.{ClosedAt}
 use Rattle.index.specs.declared.line.Line.{Line}
 use Rattle.index.specs.declared.bounds.Room.{Room}
 use Rattle.index.specs.Walk.{walked}
@@ -29,7 +28,7 @@ LinesCarryTheirMessage =
 -- message ends
 abbrev pub EndsItsMessage : List Section → Line → Type 0
 EndsItsMessage told line =
-    (p : Place) → line.end ≡ ClosedAt p
+    (p : Place) → line.end ≡ Some p
     → ToldAt told 8 p.0
     × ((told_at told p.0).offset.0 + 4 ≡ line.span.offset.0 + line.span.total)
 

@@ -1,11 +1,10 @@
 -- For each refusal 1 to 14 a walk that gives it, and for the order of the rows walks at which two
 -- of them hold (01, "Refusal numbers"). Proved in proofs/Computed.antt.
-use Rattle.std.specs.Prelude.{ℕ, ◌^◌, ◌<◌, ◌≡◌, List, [], ◌∷◌, ◌++◌, map, replicate, set, take}
+use Rattle.std.specs.Prelude.{ℕ, ◌^◌, ◌<◌, ◌≡◌, List, [], ◌∷◌, ◌++◌, map, replicate, set, take, Err}
 use Rattle.index.specs.Lines.{place}
 use Rattle.index.specs.Numbers.{end_of}
 use Rattle.index.specs.declared.numbers.End.{End}
 use Rattle.index.specs.declared.refusal.Refusal.TheVariants as refusal
-use Rattle.index.specs.declared.refusal.Outcome.TheVariants as outcome
 use Rattle.index.specs.Bounds.{unlimited}
 use Rattle.index.specs.declared.bounds.Room.{Room}
 use Rattle.index.specs.Walk.{ends, walked}
@@ -20,6 +19,7 @@ use Rattle.walk_laws.specs.Samples.{
   five_after7,
   end,
 }
+use Rattle.index.specs.Outcome.{refused_there}
 
 -- a walk of a file, in tables of so many rows and lines, and how it ends
 pub record Witness : Type 0 where
@@ -106,7 +106,7 @@ WitnessesHold =
 abbrev pub TooLongRefused : Type 0
 TooLongRefused =
     (room : Room) (file : List ℕ) → TooLong file
-    → walked room file ≡ ends (outcome.Refused refusal.FileTooLong (place 0) (record { 0 = 0 }))
+    → walked room file ≡ ends (Err (refused_there refusal.FileTooLong (place 0) (record { 0 = 0 })))
 
 -- there are such files: so many zeros
 abbrev pub LongFiles : Type 0

@@ -1,4 +1,5 @@
 -- The walk whose lines are fifteen numbers each.
+use Rattle.std.specs.Prelude.{Option, Some, None}
 use mathlib.Core.Path.{◌≡◌, refl, sym, ap, ◌∙◌}
 use mathlib.Core.Bool.{true, false}
 use mathlib.Core.List.{List, [], ◌∷◌, ◌++◌}
@@ -13,9 +14,7 @@ use Rattle.framing.specs.declared.read.Section.{Section}
 use Rattle.framing.specs.declared.read.Cursor.{Cursor}
 use Rattle.index.specs.Lines.{place, opened}
 use Rattle.index.specs.declared.line.Line.{Line}
-use Rattle.index.specs.declared.line.LocalUsePlace.{LocalUsePlace}
 use Rattle.index.specs.declared.line.Span.{Span}
-use Rattle.index.specs.declared.refusal.Outcome.{Outcome}
 use Rattle.index.specs.Walk.{Reached}
 use Rattle.standing.specs.Tables.{stored_over}
 use Rattle.standing.specs.Put.{put_at, row_put}
@@ -23,8 +22,7 @@ use Rattle.standing.specs.Standing.{force_in, passed_row}
 use Rattle.standing.proofs.Put.{row_there}
 use Rattle.standing.proofs.Passed.{more, behind}
 use Rattle.walk_numbers.specs.Moves.{
-  open_line,
-  closed_line,
+  line_in_hand,
   told_line,
   closed_both,
   ended_at,
@@ -40,6 +38,7 @@ use Rattle.walk_numbers.specs.Numbers.{line_numbers, lines_of, seven_of, walk_nu
 use Rattle.walk_numbers.specs.declared.numbers.WalkAnswer.{WalkAnswer}
 use Rattle.standing.proofs.Lent as tables
 use Rattle.standing.proofs.Lent.{encoded, Out, result, by_test_2, none}
+use Rattle.index.specs.Outcome.{Outcome}
 
 pub fifteen : (l : Line) → length (line_numbers l) ≡ 15
 unfolding line_numbers
@@ -54,7 +53,7 @@ same_lines [] = refl
 same_lines (l ∷ more) = ap (λ (rest : List ℕ). line_numbers l ++ rest) (same_lines more)
 
 -- what is reached, from the loop's variables
-abbrev pub reached_at : List ℕ → Standing → Span → LocalUsePlace → List Place → Reached
+abbrev pub reached_at : List ℕ → Standing → Span → Option Place → List Place → Reached
 reached_at file at span local places =
     record {
       file = file;
@@ -72,7 +71,7 @@ module _ (file rows₀ lines₀ : List ℕ) where
   abbrev pub meant : Out 15 line_numbers fifteen
   meant = tables.meant 15 line_numbers fifteen file rows₀ lines₀ (length lines₀ / 15) (in_room (length lines₀))
 
-  abbrev pub KeptAt : Standing → Span → LocalUsePlace → List Place → List ℕ → List ℕ → Type 0
+  abbrev pub KeptAt : Standing → Span → Option Place → List Place → List ℕ → List ℕ → Type 0
   KeptAt at span local places rows lines = Kept (reached_at file at span local places) at.reading.cursor rows lines
 
   -- the answer and both tables, at the end
@@ -101,14 +100,14 @@ module _ (file rows₀ lines₀ : List ℕ) where
       )
 
   -- a section that fits is looked at, with no submessage left to tell before it
-  pub record Passing (at : Standing) (span : Span) (local : LocalUsePlace) (places : List Place) (rows lines : List ℕ) (s : Section)
+  pub record Passing (at : Standing) (span : Span) (local : Option Place) (places : List Place) (rows lines : List ℕ) (s : Section)
       (next : Reading) : Type 0 where
     pub kept : KeptAt at span local places rows lines
     pub sees : seen file at.reading ≡ Passes s next
     pub alone : completes at.reading.order s.number ≡ false
 
   -- the laws of `Lent`, for the tables as they were stored
-  module _ {at : Standing} {span : Span} {local : LocalUsePlace} {places : List Place} {rows lines : List ℕ} where
+  module _ {at : Standing} {span : Span} {local : Option Place} {places : List Place} {rows lines : List ℕ} where
     pub passing_on : {s : Section} {next : Reading} {at' : Standing} {lines' : List ℕ}
         → KeptAt at span local places rows lines → seen file at.reading ≡ Passes s next
         → completes at.reading.order s.number ≡ false → at' ≡ at → lines' ≡ lines
@@ -119,7 +118,7 @@ module _ (file rows₀ lines₀ : List ℕ) where
     pub passing_behind : {s : Section} {next : Reading} {at' : Standing} {lines' : List ℕ}
         → KeptAt at span local places rows lines → seen file at.reading ≡ Passes s next
         → completes at.reading.order s.number ≡ true → at.lines < length lines₀ / 15
-        → at' ≡ told_line at → lines' ≡ put_at (at.lines * 15) (line_numbers (open_line at span local places)) lines
+        → at' ≡ told_line at → lines' ≡ put_at (at.lines * 15) (line_numbers (line_in_hand at span local places None)) lines
         → Passing at' span local places rows lines' s next
     passing_behind {s} kept e c free same put =
         rw (same, put)
@@ -129,7 +128,7 @@ module _ (file rows₀ lines₀ : List ℕ) where
           alone = none s.number;
         })
 
-    pub passed : {s : Section} {next : Reading} {at' : Standing} {span' : Span} {local' : LocalUsePlace} {places' : List Place} {rows' : List ℕ}
+    pub passed : {s : Section} {next : Reading} {at' : Standing} {span' : Span} {local' : Option Place} {places' : List Place} {rows' : List ℕ}
         → Passing at span local places rows lines s next → at.sections < length rows₀ / 3 → length rows₀ < 2 ^ 64
         → behind (force_in at span local places) s next.cursor (place at.sections) ≡ force_in at span' local' places'
         → at' ≡ passed_row at s next → rows' ≡ row_put at.sections s rows
@@ -143,7 +142,7 @@ module _ (file rows₀ lines₀ : List ℕ) where
         → KeptAt at span local places rows lines → seen file at.reading ≡ Closes s next
         → at.sections < length rows₀ / 3 → at.lines < length lines₀ / 15
         → at' ≡ closed_both at s next → rows' ≡ row_put at.sections s rows
-        → lines' ≡ put_at (at.lines * 15) (line_numbers (closed_line at span local places)) lines
+        → lines' ≡ put_at (at.lines * 15) (line_numbers (line_in_hand at span local places (Some (place at.sections)))) lines
         → KeptAt at' (opened 0).span (opened 0).local (opened 0).places rows' lines'
     closed {s} kept e free line same put told =
         rw (same, put, row_there at.sections s rows (rw kept.same_rows free), told)
@@ -153,7 +152,7 @@ module _ (file rows₀ lines₀ : List ℕ) where
     pub misplaced : {s : Section} {answer : WalkAnswer} {lines' : List ℕ}
         → KeptAt at span local places rows lines → seen file at.reading ≡ Misplaced s
         → answer ≡ misplaced_answer (length lines / 15) at s
-        → lines' ≡ misplaced_lines at (open_line at span local places) s lines → Met answer rows lines'
+        → lines' ≡ misplaced_lines at (line_in_hand at span local places None) s lines → Met answer rows lines'
     unfolding misplaced_answer misplaced_lines
     misplaced {s} kept e answered put =
         rw (answered, put, kept.same_lines)

@@ -1,5 +1,5 @@
 -- Machinery: what a line or a closed message changes of where the walk stands, and its answers.
-use Rattle.std.specs.Prelude.{ℕ, ◌+◌, ◌*◌, ◌/◌, List, leb, length}
+use Rattle.std.specs.Prelude.{ℕ, ◌+◌, ◌*◌, ◌/◌, List, leb, length, Option, Err}
 use Rattle.octets.specs.Words.{pick}
 use Rattle.framing.specs.declared.read.Fault.{Fault}
 use Rattle.framing.specs.declared.read.Offset.{Offset}
@@ -8,14 +8,10 @@ use Rattle.order.specs.Order.{completes}
 use Rattle.order.specs.declared.Place.{Place}
 use Rattle.order.specs.declared.Order.TheVariants.{SubmessageStart}
 use Rattle.index.specs.Lines.{place, unlisted, line_of}
-use Rattle.index.specs.declared.line.MessageEnd.TheVariants.{GoesOn, ClosedAt}
 use Rattle.index.specs.declared.line.Span.{Span}
 use Rattle.index.specs.declared.line.Line.{Line}
-use Rattle.index.specs.declared.line.LocalUsePlace.{LocalUsePlace}
 use Rattle.index.specs.declared.refusal.Refusal.{Refusal}
 use Rattle.index.specs.declared.refusal.Refusal.TheVariants as refusal
-use Rattle.index.specs.declared.refusal.Outcome.{Outcome}
-use Rattle.index.specs.declared.refusal.Outcome.TheVariants as outcome
 use Rattle.reading.specs.Reading.{reading, start}
 use Rattle.reading.specs.declared.Reading.{Reading}
 use Rattle.standing.specs.Put.{put_at}
@@ -23,6 +19,7 @@ use Rattle.standing.specs.Standing.{force_in}
 use Rattle.standing.specs.declared.Standing.{Standing}
 use Rattle.walk_numbers.specs.Numbers.{line_numbers, seven_of}
 use Rattle.walk_numbers.specs.declared.numbers.WalkAnswer.{WalkAnswer}
+use Rattle.index.specs.Outcome.{Outcome, refused_there}
 
 -- before the first section
 abbrev pub unbegun : Standing
@@ -36,13 +33,9 @@ unbegun =
       last = unlisted;
     }
 
--- the line of the submessage in hand: its message goes on, or is closed
-abbrev pub open_line : Standing → Span → LocalUsePlace → List Place → Line
-open_line at span local places = line_of (force_in at span local places) GoesOn
-
-abbrev pub closed_line : Standing → Span → LocalUsePlace → List Place → Line
-closed_line at span local places =
-    line_of (force_in at span local places) (ClosedAt (place at.sections))
+-- the line of the submessage in hand: its message goes on, or is closed at a place
+abbrev pub line_in_hand : Standing → Span → Option Place → List Place → Option Place → Line
+line_in_hand at span local places end = line_of (force_in at span local places) end
 
 -- that line is told, and the message goes on
 abbrev pub told_line : Standing → Standing
@@ -80,19 +73,19 @@ ended_at at end =
     })
 
 abbrev pub refused_here : Standing → Refusal → Section → WalkAnswer
-refused_here at why s = ended_at at (outcome.Refused why (place at.sections) s.offset)
+refused_here at why s = ended_at at (Err (refused_there why (place at.sections) s.offset))
 
 -- the file is too long, the input is over inside a message, or a section can't be read
 abbrev pub long_answer : WalkAnswer
-long_answer = ended_at unbegun (outcome.Refused refusal.FileTooLong (place 0) (record { 0 = 0 }))
+long_answer = ended_at unbegun (Err (refused_there refusal.FileTooLong (place 0) (record { 0 = 0 })))
 
 abbrev pub over_at : Standing → WalkAnswer
 over_at at =
-    ended_at at (outcome.Refused refusal.InputOver at.last.place at.last.section.offset)
+    ended_at at (Err (refused_there refusal.InputOver at.last.place at.last.section.offset))
 
 abbrev pub unreadable_at : Standing → Fault → Offset → WalkAnswer
 unreadable_at at fault offset =
-    ended_at at (outcome.Refused (refusal.Unreadable fault) (place at.sections) offset)
+    ended_at at (Err (refused_there (refusal.Unreadable fault) (place at.sections) offset))
 
 -- a section that can't come next, with room for so many lines: 14 goes before 11
 unfoldable pub misplaced_answer : ℕ → Standing → Section → WalkAnswer

@@ -1,38 +1,25 @@
 -- The walk with both tables lent as numbers, and its answer's seven numbers (01, "Order", "Refusal
 -- numbers"). What a walk tells is the crate `index`'s, the section table that of the crate
 -- `standing`; the counts are those of the crate `walk`.
-use Rattle.std.specs.Prelude.{ℕ, ◌/◌, List, [], ◌∷◌, ◌++◌, length}
+use Rattle.std.specs.Prelude.{ℕ, ◌/◌, List, [], ◌∷◌, ◌++◌, length, Option, Some, None}
 use Rattle.index.specs.declared.line.Line.{Line}
-use Rattle.index.specs.declared.line.LocalUsePlace.{LocalUsePlace}
-use Rattle.index.specs.declared.line.LocalUsePlace.TheVariants.{At, Absent}
-use Rattle.index.specs.declared.line.MessageEnd.{MessageEnd}
-use Rattle.index.specs.declared.line.MessageEnd.TheVariants.{GoesOn, ClosedAt}
 use Rattle.index.specs.Numbers.{end_of}
 use Rattle.index.specs.Walk.{walked}
 use Rattle.standing.specs.Tables.{room_of, rows_of, stored_over}
 use Rattle.walk.specs.Tables.{answer_of}
 use Rattle.walk.specs.declared.lines.Answer.{Answer}
 use Rattle.walk_numbers.specs.declared.numbers.WalkAnswer.{WalkAnswer}
+use Rattle.order.specs.declared.Place.{Place}
 
--- 1 or 0 for whether there is a section 2
-unfoldable pub has_local : LocalUsePlace → ℕ
-has_local (At place) = 1
-has_local Absent = 0
+-- 1 or 0 for whether there is a place: of a section 2, or of the section 8 that closes the message
+unfoldable pub is_there : Option Place → ℕ
+is_there (Some place) = 1
+is_there None = 0
 
--- its place; where there is none the number is 0 and says nothing
-unfoldable pub local_place : LocalUsePlace → ℕ
-local_place (At place) = place.0
-local_place Absent = 0
-
--- 1 or 0 for whether the message is closed
-unfoldable pub is_closed : MessageEnd → ℕ
-is_closed GoesOn = 0
-is_closed (ClosedAt place) = 1
-
--- the place of its section 8; where it goes on the number is 0 and says nothing
-unfoldable pub end_place : MessageEnd → ℕ
-end_place GoesOn = 0
-end_place (ClosedAt place) = place.0
+-- the place; where there is none the number is 0 and says nothing
+unfoldable pub place_or_0 : Option Place → ℕ
+place_or_0 (Some place) = place.0
+place_or_0 None = 0
 
 -- a line is fifteen numbers: message, submessage, whether there is a section 2, whether the message
 -- is closed, nine places, the message's octet offset and total length
@@ -40,17 +27,17 @@ unfoldable pub line_numbers : Line → List ℕ
 line_numbers l =
     l.message
     ∷ l.submessage
-    ∷ has_local l.local
-    ∷ is_closed l.end
+    ∷ is_there l.local
+    ∷ is_there l.end
     ∷ l.indicator.0
     ∷ l.identification.0
-    ∷ local_place l.local
+    ∷ place_or_0 l.local
     ∷ l.grid.0
     ∷ l.product.0
     ∷ l.representation.0
     ∷ l.bitmap.0
     ∷ l.values.0
-    ∷ end_place l.end
+    ∷ place_or_0 l.end
     ∷ l.span.offset.0
     ∷ l.span.total
     ∷ []

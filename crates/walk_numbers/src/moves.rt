@@ -3,14 +3,14 @@
 ghost use Rattle.std.specs.Prelude.{◌≡◌, ◌<◌};
 ghost use Rattle.order.specs.Order.{completes};
 ghost use Rattle.index.specs.Lines.{opened};
-ghost use Rattle.walk_numbers.specs.Moves.{unbegun, open_line, closed_line};
+ghost use Rattle.walk_numbers.specs.Moves.{unbegun, line_in_hand};
 ghost use Rattle.walk_numbers.specs.Moves.{told_line, closed_both};
 
 use framing::{Offset, Section};
-use index::{Force, Line, Listed, LocalUsePlace, MessageEnd, Span, line_of, unlisted};
+use index::{Force, KEPT, Line, Listed, Span, line_of, unlisted};
 use order::{Order, Place, completing};
 use reading::{Reading, start};
-use standing::{KEPT, Standing};
+use standing::Standing;
 
 // Where a message stands, before its section 0 says it.
 pub(crate) fn unstated() -> Span
@@ -45,14 +45,16 @@ pub(crate) fn completes(at: Standing, section: Section) -> bool
     completing(order, section.number)
 }
 
-// The line of the submessage in hand, whose message goes on ..
-pub(crate) fn open_line(
+// The line of the submessage in hand, with what stands behind it: more of its message, or the
+// section 8 that closes it.
+pub(crate) fn line_in_hand(
     at: Standing,
     span: Span,
-    local: LocalUsePlace,
+    local: Option<Place>,
     places: [Place; KEPT],
+    end: Option<Place>,
 ) -> Line
-    ensures { result ≡ open_line at span local places }
+    ensures { result ≡ line_in_hand at span local places end }
 {
     let force = Force {
         message: at.message,
@@ -61,26 +63,7 @@ pub(crate) fn open_line(
         local,
         places,
     };
-    line_of(force, MessageEnd::GoesOn)
-}
-
-// .. or is closed by the section that is looked at.
-pub(crate) fn closed_line(
-    at: Standing,
-    span: Span,
-    local: LocalUsePlace,
-    places: [Place; KEPT],
-) -> Line
-    ensures { result ≡ closed_line at span local places }
-{
-    let force = Force {
-        message: at.message,
-        submessage: at.submessage,
-        span,
-        local,
-        places,
-    };
-    line_of(force, MessageEnd::ClosedAt(Place(at.sections)))
+    line_of(force, end)
 }
 
 // The line of the submessage in hand is told, and its message goes on.

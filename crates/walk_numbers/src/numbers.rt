@@ -6,13 +6,13 @@ ghost use Rattle.walk_numbers.specs.Moves.{ended_at, refused_here, over_at, unre
 ghost use Rattle.walk_numbers.specs.Moves.{long_answer, misplaced_answer, misplaced_lines};
 
 use crate::columns::{LINE, put_line};
-use crate::moves::{closed_both, closed_line, completes, open_line, told_line, unbegun, unstated};
+use crate::moves::{closed_both, completes, line_in_hand, told_line, unbegun, unstated};
 use framing::{Fault, Offset, Section};
-use index::{Line, LocalUsePlace, MOST_OCTETS, Outcome, Refusal, Room, end_of};
+use index::{KEPT, Line, MOST_OCTETS, Outcome, Refusal, Refused, Room, end_of};
 use order::Place;
 use reading::{Seen, glance};
 use sections::LocalUse;
-use standing::{KEPT, ROW, Standing, passed_row, put_row, span_after};
+use standing::{ROW, Standing, passed_row, put_row, span_after};
 
 // How many lines stand in each table, how many messages were closed, and how the walk ended.
 #[repr(C)]
@@ -57,8 +57,9 @@ fn ended(at: Standing, outcome: Outcome) -> WalkAnswer
 fn refused(at: Standing, why: Refusal, section: Section) -> WalkAnswer
     ensures { result ≡ refused_here at why section }
 {
+    let place = Place(at.sections);
     let offset = section.offset;
-    ended(at, Outcome::Refused(why, Place(at.sections), offset))
+    ended(at, Err(Refused { why, place, offset }))
 }
 
 // 11, at a stray section, behind the line of the submessage that it completes: 14 goes before.
@@ -83,21 +84,21 @@ fn misplaced(lines: &mut [u64], at: Standing, line: Line, stray: Section) -> Wal
 fn input_over(at: Standing) -> WalkAnswer
     ensures { result ≡ over_at at }
 {
+    let why = Refusal::InputOver;
     let last = at.last;
     let place = last.place;
     let section = last.section;
     let offset = section.offset;
-    ended(at, Outcome::Refused(Refusal::InputOver, place, offset))
+    ended(at, Err(Refused { why, place, offset }))
 }
 
 // 2 to 9.
 fn unreadable(at: Standing, fault: Fault, offset: Offset) -> WalkAnswer
     ensures { result ≡ unreadable_at at fault offset }
 {
-    ended(
-        at,
-        Outcome::Refused(Refusal::Unreadable(fault), Place(at.sections), offset),
-    )
+    let why = Refusal::Unreadable(fault);
+    let place = Place(at.sections);
+    ended(at, Err(Refused { why, place, offset }))
 }
 
 // 1.
@@ -106,7 +107,11 @@ fn too_long() -> WalkAnswer
 {
     ended(
         unbegun(),
-        Outcome::Refused(Refusal::FileTooLong, Place(0), Offset(0)),
+        Err(Refused {
+            why: Refusal::FileTooLong,
+            place: Place(0),
+            offset: Offset(0),
+        }),
     )
 }
 
@@ -128,7 +133,7 @@ pub fn walk_numbers(file: &[u8], rows: &mut [u64], lines: &mut [u64]) -> WalkAns
     let room = room_in(rows.len(), lines.len());
     let mut at = unbegun();
     let mut span = unstated();
-    let mut local = LocalUsePlace::Absent;
+    let mut local = None;
     let mut places = [Place(0); KEPT];
     loop {
         let seen = glance(file, at.reading);
@@ -138,7 +143,7 @@ pub fn walk_numbers(file: &[u8], rows: &mut [u64], lines: &mut [u64]) -> WalkAns
                     if room.lines <= at.lines {
                         return refused(at, Refusal::SubmessageTableFull, section);
                     }
-                    put_line(lines, at.lines, open_line(at, span, local, places));
+                    put_line(lines, at.lines, line_in_hand(at, span, local, places, None));
                     at = told_line(at);
                 }
                 if room.rows <= at.sections {
@@ -151,7 +156,7 @@ pub fn walk_numbers(file: &[u8], rows: &mut [u64], lines: &mut [u64]) -> WalkAns
                 if LocalUse::NUMBER < section.number {
                     places[section.number as usize] = here;
                 } else if section.number == LocalUse::NUMBER {
-                    local = LocalUsePlace::At(here);
+                    local = Some(here);
                 } else {
                     span = span_after(span, section, next.cursor);
                     places[section.number as usize] = here;
@@ -165,20 +170,21 @@ pub fn walk_numbers(file: &[u8], rows: &mut [u64], lines: &mut [u64]) -> WalkAns
                     return refused(at, Refusal::SubmessageTableFull, end);
                 }
                 put_row(rows, at.sections, end);
-                put_line(lines, at.lines, closed_line(at, span, local, places));
+                let here = Some(Place(at.sections));
+                put_line(lines, at.lines, line_in_hand(at, span, local, places, here));
                 at = closed_both(at, end, next);
                 span = unstated();
-                local = LocalUsePlace::Absent;
+                local = None;
                 places = [Place(0); KEPT];
             }
             Seen::Misplaced(section) => {
-                let line = open_line(at, span, local, places);
+                let line = line_in_hand(at, span, local, places, None);
                 return misplaced(lines, at, line, section);
             }
             Seen::NoGrid(section) => {
                 return refused(at, Refusal::NoGrid(section.number), section);
             }
-            Seen::Clean => return ended(at, Outcome::Clean),
+            Seen::Clean => return ended(at, Ok(())),
             Seen::InputOver => return input_over(at),
             Seen::Unreadable(fault, offset) => return unreadable(at, fault, offset),
         }

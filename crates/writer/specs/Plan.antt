@@ -1,10 +1,10 @@
 -- A plan of a message: its sections, and the checks 15 to 19 in document 01's order, each over the
 -- whole plan before the next (01, "The writer", "Refusal numbers").
 use Rattle.std.specs.Prelude.{ℕ, ◌+◌, Bool, false, ◌||◌, List, [], ◌∷◌, ltb, length}
+use Rattle.std.specs.Prelude.{Option, Some, None, Result, Ok, Err, ⊤}
 use Rattle.octets.specs.Words.{pick}
-use Rattle.sections.specs.Kinds.{header_size, indicator_size, end_size, end_section, least_payload_of}
-use Rattle.sections.specs.declared.kinds.LeastOf.{LeastOf}
-use Rattle.sections.specs.declared.kinds.LeastOf.TheVariants.{Octets, NoHeader}
+use Rattle.sections.specs.Kinds.{header_size, indicator_size, end_size, end_section}
+use Rattle.sections.specs.Kinds.{least_payload_of}
 use Rattle.order.specs.Order.{judged}
 use Rattle.order.specs.declared.Order.{Order}
 use Rattle.order.specs.declared.Order.TheVariants.{AfterIndicator}
@@ -12,17 +12,9 @@ use Rattle.order.specs.declared.Judged.{Judged}
 use Rattle.order.specs.declared.Judged.TheVariants.{Fits, Closes, Misplaced, NoGrid}
 use Rattle.index.specs.Bounds.{most_octets}
 use Rattle.writer.specs.declared.PlanPlace.{PlanPlace}
-use Rattle.writer.specs.declared.Check.{Check}
-use Rattle.writer.specs.declared.Check.TheVariants.{Passed, At}
-use Rattle.writer.specs.declared.Written.{Written}
-use Rattle.writer.specs.declared.Written.TheVariants.{
-  Whole,
-  TooManySections,
-  NotOneMessage,
-  OutsideStore,
-  PayloadSize,
-  NoRoom,
-}
+use Rattle.writer.specs.declared.WriteRefusal.TheVariants.{TooManySections, NotOneMessage}
+use Rattle.writer.specs.declared.WriteRefusal.TheVariants.{OutsideStore, PayloadSize, NoRoom}
+use Rattle.writer.specs.declared.WriteRefusal.{WriteRefusal}
 
 -- the most sections of a plan
 abbrev pub most_sections : ℕ
@@ -51,28 +43,22 @@ parts_of (number ∷ offset ∷ octets ∷ more) =
     record { number = number; offset = offset; length = octets } ∷ parts_of more
 
 -- what a check finds: nothing at fault, or the first place at fault
-pub data Finding : Type 0 where
-  no_fault : Finding
-  fault_at : PlanPlace → Finding
-
--- as the code's checks answer it
-unfoldable pub check_of : Finding → Check
-check_of no_fault = Passed
-check_of (fault_at at) = At at
+abbrev pub Finding : Type 0
+Finding = Result ⊤ PlanPlace
 
 -- a number that may come next goes on; any other, 0 and 8 too, is at fault
 abbrev pub or_at : Judged → ℕ → (Order → Finding) → Finding
 or_at (Fits next) at later = later next
-or_at Closes at later = fault_at (plan_place at)
-or_at Misplaced at later = fault_at (plan_place at)
-or_at NoGrid at later = fault_at (plan_place at)
+or_at Closes at later = Err (plan_place at)
+or_at Misplaced at later = Err (plan_place at)
+or_at NoGrid at later = Err (plan_place at)
 
 -- at the plan's end an 8 has to close the message
 abbrev pub closed_at : Judged → ℕ → Finding
-closed_at Closes at = no_fault
-closed_at (Fits next) at = fault_at (plan_place at)
-closed_at Misplaced at = fault_at (plan_place at)
-closed_at NoGrid at = fault_at (plan_place at)
+closed_at Closes at = Ok tt
+closed_at (Fits next) at = Err (plan_place at)
+closed_at Misplaced at = Err (plan_place at)
+closed_at NoGrid at = Err (plan_place at)
 
 -- 16: the first place whose number can't come next, or the plan's length if only the 8 misfits
 unfoldable pub misfit_from : Order → ℕ → List Part → Finding
@@ -86,10 +72,10 @@ misfit parts = misfit_from AfterIndicator 0 parts
 
 -- the first place, counted on from one, of a part that a test finds at fault
 unfoldable pub first_at : (Part → Bool) → ℕ → List Part → Finding
-first_at faulty at [] = no_fault
+first_at faulty at [] = Ok tt
 first_at faulty at (part ∷ more) =
     let later = first_at faulty (at + 1) more in
-    pick (faulty part) (fault_at (plan_place at)) later
+    pick (faulty part) (Err (plan_place at)) later
 
 -- 17: offset plus length over the store's length
 unfoldable pub is_outside : ℕ → Part → Bool
@@ -97,9 +83,9 @@ is_outside store part = ltb store (part.offset + part.length)
 
 -- a payload under its kind's least; false where the number has no least: 16 comes first, so that no
 -- such number is left
-abbrev pub under_least : LeastOf → ℕ → Bool
-under_least (Octets least) octets = ltb octets least
-under_least NoHeader octets = false
+abbrev pub under_least : Option ℕ → ℕ → Bool
+under_least (Some least) octets = ltb octets least
+under_least None octets = false
 
 -- 18: payload under its least, or so long that its section's length is no number of four octets
 unfoldable pub is_wrong_size : Part → Bool
@@ -116,17 +102,18 @@ abbrev pub total_of : List Part → ℕ
 total_of parts = indicator_size + (sections_size parts + end_size)
 
 -- a check that names a place refuses; after one that passes comes the next
-abbrev pub unless : Finding → (PlanPlace → Written) → Written → Written
-unless (fault_at at) refused later = refused at
-unless no_fault refused later = later
+abbrev pub unless : Finding → (PlanPlace → WriteRefusal) → Result ℕ WriteRefusal
+    → Result ℕ WriteRefusal
+unless (Err at) refused later = Err (refused at)
+unless (Ok tt) refused later = later
 
 -- the checks: 15, 16, 17, 18, 19
-unfoldable pub judged_plan : List Part → ℕ → ℕ → Written
+unfoldable pub judged_plan : List Part → ℕ → ℕ → Result ℕ WriteRefusal
 judged_plan parts store room =
-    pick (ltb most_sections (length parts)) TooManySections
+    pick (ltb most_sections (length parts)) (Err TooManySections)
     (unless (misfit parts) NotOneMessage
     (unless (first_at (is_outside store) 0 parts) OutsideStore
     (unless (first_at is_wrong_size 0 parts) PayloadSize
-    (pick (ltb room (total_of parts)) NoRoom
-    (pick (ltb most_octets (total_of parts)) NoRoom
-    (Whole (total_of parts)))))))
+    (pick (ltb room (total_of parts)) (Err NoRoom)
+    (pick (ltb most_octets (total_of parts)) (Err NoRoom)
+    (Ok (total_of parts)))))))

@@ -19,22 +19,23 @@ put_lines-measured-requires c = (refl, search rules)
 pub returns-then-text-octets : goal.returns-then-text-octets
 returns-then-text-octets c =
     let args = c.args in
-    let all = too_small args.file.now args.text.now c.put_lines-measured.ensures c.in-Clean.is c.if-text-octets.true in
+    let all = too_small args.file.now args.text.now c.put_lines-measured.ensures c.in-Ok.is
+    c.if-text-octets.true in
     record { answer = all.0; text = all.1 }
 
 pub put_lines-written-requires : goal.put_lines-written-requires
 unfolding rows
 put_lines-written-requires c = (refl, search rules)
 
-pub returns-in-Refused : goal.returns-in-Refused
-returns-in-Refused c =
+pub returns-in-Err : goal.returns-in-Err
+returns-in-Err c =
     let args = c.args in
-    let all = refused args.file.now args.text.now c.put_lines-measured.ensures c.in-Refused.is in
+    let all = refused args.file.now args.text.now c.put_lines-measured.ensures c.in-Err.is in
     record { answer = all.0; text = all.1 }
 
 pub returns-else-text-octets : goal.returns-else-text-octets
 returns-else-text-octets c =
     let args = c.args in
-    let all = whole args.file.now args.text.now c.put_lines-measured.ensures c.in-Clean.is c.if-text-octets.false
-    c.put_lines-written.ensures in
+    let all = whole args.file.now args.text.now c.put_lines-measured.ensures c.in-Ok.is
+    c.if-text-octets.false c.put_lines-written.ensures in
     record { answer = all.0; text = all.1 }

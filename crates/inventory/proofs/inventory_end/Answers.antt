@@ -3,14 +3,20 @@ use mathlib.Core.Path.{◌∙◌}
 use Rattle.inventory.specs.End.{inventory_end}
 use Rattle.inventory.proofs.inventory_end.Goals as goal
 
-pub returns-in-Whole : goal.returns-in-Whole
+pub returns-in-Ok : goal.returns-in-Ok
 unfolding inventory_end
-returns-in-Whole c = c.stored.ensures ∙ rw c.in-Whole.is
+returns-in-Ok c = c.stored.ensures ∙ rw c.in-Ok.is
 
-pub returns-in-Refused : goal.returns-in-Refused
+pub returns-in-Err-Walk : goal.returns-in-Err-Walk
 unfolding inventory_end
-returns-in-Refused c = rw (c.end_of.ensures, c.in-Refused.is)
+returns-in-Err-Walk c =
+    let e = c.in-Err-Walk.is in
+    let why = rw e at c.in-Err-Walk.field-0-is in
+    rw (c.end_of.ensures, e, why)
 
-pub returns-in-TextTooSmall : goal.returns-in-TextTooSmall
+pub returns-in-Err-TextTooSmall : goal.returns-in-Err-TextTooSmall
 unfolding inventory_end
-returns-in-TextTooSmall c = c.unplaced.ensures ∙ rw c.in-TextTooSmall.is
+returns-in-Err-TextTooSmall c =
+    let e = c.in-Err-TextTooSmall.is in
+    let why = rw e at c.in-Err-TextTooSmall.field-0-is in
+    c.unplaced.ensures ∙ rw (e, why)

@@ -3,14 +3,20 @@ use Rattle.index.specs.Numbers.{end_of}
 use Rattle.lists.specs.End.{list_end}
 use Rattle.lists.proofs.list_end.Goals as goal
 
-pub returns-in-AllRead : goal.returns-in-AllRead
+pub returns-in-Ok : goal.returns-in-Ok
 unfolding list_end end_of
-returns-in-AllRead c = rw c.in-AllRead.is
+returns-in-Ok c = rw c.in-Ok.is
 
-pub returns-in-NotInForm : goal.returns-in-NotInForm
+pub returns-in-Err-NotInForm : goal.returns-in-Err-NotInForm
 unfolding list_end end_of
-returns-in-NotInForm c = rw c.in-NotInForm.is
+returns-in-Err-NotInForm c =
+    let e = c.in-Err-NotInForm.is in
+    let why = rw e at c.in-Err-NotInForm.field-0-is in
+    rw (e, why)
 
-pub returns-in-TableFull : goal.returns-in-TableFull
+pub returns-in-Err-TableFull : goal.returns-in-Err-TableFull
 unfolding list_end end_of
-returns-in-TableFull c = rw c.in-TableFull.is
+returns-in-Err-TableFull c =
+    let e = c.in-Err-TableFull.is in
+    let why = rw e at c.in-Err-TableFull.field-0-is in
+    rw (e, why)

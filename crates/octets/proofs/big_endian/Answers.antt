@@ -4,7 +4,6 @@ use Prim.Native.Nat.{ℕ, ◌+◌, ◌*◌}
 use mathlib.Core.List.{List}
 use native.Mathlib.Nat.{zero-add}
 use native.Mathlib.Omega.{arith}
-use borrow.Author.Rules.{rules}
 use lib.ListN.{length, get_or}
 use Rattle.octets.specs.BigEndian.{be_at}
 use Rattle.octets.proofs.Laws.{be_more, be_lt, be_below}
@@ -14,27 +13,27 @@ use Rattle.octets.proofs.big_endian.Goals as goal
 more : (s : List ℕ) (sum w i : ℕ) → sum ≡ be_at s 0 i → w ≡ get_or s i 0 → sum * 256 + w ≡ be_at s 0 (i + 1)
 more s sum w i e f = rw (e, f) (sym (be_more s 0 i ∙ ap (λ (j : ℕ). be_at s 0 i * 256 + get_or s j 0) (zero-add i)))
 
-pub loop-i-init : goal.loop-i-init
+pub loop-octet-init : goal.loop-octet-init
 unfolding be_at
-loop-i-init c = (search rules, refl)
+loop-octet-init c = refl
 
 pub overflow_mul-sum : goal.overflow_mul-sum
-overflow_mul-sum c = omega (arith, be_below c.args.s.now 0 c.loop-i.i 7 c.type_inv.s (omega arith))
+overflow_mul-sum c = omega (arith, be_below c.args.s.now 0 c.loop-octet.octet-index 7 c.type_inv.s (omega arith))
 
 pub overflow_add-sum : goal.overflow_add-sum
 overflow_add-sum c =
     omega (
       arith,
-      be_below c.args.s.now 0 c.loop-i.i 7 c.type_inv.s (omega arith),
-      c.type_inv.s c.loop-i.i,
+      be_below c.args.s.now 0 c.loop-octet.octet-index 7 c.type_inv.s (omega arith),
+      c.type_inv.s c.loop-octet.octet-index,
     )
 
-pub loop-i-preserved : goal.loop-i-preserved
-loop-i-preserved c = (omega arith, more _ _ _ _ c.loop-i.invariant.1 c.wide.ensures)
+pub loop-octet-preserved : goal.loop-octet-preserved
+loop-octet-preserved c = more _ _ _ _ c.loop-octet.invariant c.wide.ensures
 
 pub returns : goal.returns
 returns c =
     let s = c.args.s.now in
-    let all : c.loop-i.i ≡ length s = omega arith in
-    let number = c.loop-i.invariant.1 ∙ ap (be_at s 0) all in
+    let all : c.loop-octet.octet-index ≡ length s = omega arith in
+    let number = c.loop-octet.invariant ∙ ap (be_at s 0) all in
     (number, rw number (be_lt s 0 c.type_inv.s (length s)))

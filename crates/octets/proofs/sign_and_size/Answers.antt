@@ -1,4 +1,5 @@
 -- `octets::sign_and_size` meets its contract: at each `return` the tests that led there say which case of `signed_of` holds.
+use Rattle.std.specs.Prelude.{Some}
 use mathlib.Core.Path.{◌≡◌, ap, ◌∙◌}
 use Prim.Native.Nat.{ℕ, ◌-◌, ◌*◌, ◌%◌, ◌^◌, ◌<◌, ◌≤◌}
 use native.Mathlib.Nat.{mod-lt}
@@ -9,7 +10,6 @@ use borrow.Author.Tests.{lt-ltb, le-ltb}
 use lib.Pow.{pow_pos, pow_mono}
 use mir.Facts.{to_z-of_z}
 use Rattle.octets.specs.Signed.{signed_of}
-use Rattle.octets.specs.declared.Signed.TheVariants.{Number}
 use Rattle.octets.proofs.sign_and_size.Goals as goal
 
 -- the sign bit of n octets is no zero, and at most 4 octets write a size below 2 ^ 31
@@ -39,11 +39,11 @@ minus-requires c = small _ _ (omega arith) c.sign_bit.ensures
 pub returns-then-s-lt128 : goal.returns-then-s-lt128
 unfolding signed_of
 returns-then-s-lt128 c =
-    ap Number (to_z-of_z {w = w32} {z = c.plus.result} (sfits_of c.plus.type_inv) ∙ c.plus.ensures)
+    ap Some (to_z-of_z {w = w32} {z = c.plus.result} (sfits_of c.plus.type_inv) ∙ c.plus.ensures)
     ∙ simp (le-ltb _ _ c.if-n-lt1.false, le-ltb _ _ c.if-n-gt4.false, lt-ltb _ _ c.if-s-lt128.true, c.sign_bit.ensures, c.big_endian.ensures.0)
 
 pub returns-else-s-lt128 : goal.returns-else-s-lt128
 unfolding signed_of
 returns-else-s-lt128 c =
-    ap Number (to_z-of_z {w = w32} {z = c.minus.result} (sfits_of c.minus.type_inv) ∙ c.minus.ensures)
+    ap Some (to_z-of_z {w = w32} {z = c.minus.result} (sfits_of c.minus.type_inv) ∙ c.minus.ensures)
     ∙ simp (le-ltb _ _ c.if-n-lt1.false, le-ltb _ _ c.if-n-gt4.false, le-ltb _ _ c.if-s-lt128.false, c.sign_bit.ensures, c.big_endian.ensures.0)

@@ -5,15 +5,6 @@ use native.Mathlib.Omega.{arith}
 use borrow.Author.Tests.{ne_eqb}
 use Rattle.order.proofs.at_submessage_start.Goals as goal
 
-pub returns-in-2 : goal.returns-in-2
-returns-in-2 c = rw c.in-2.is
-
-pub returns-in-3 : goal.returns-in-3
-returns-in-3 c = rw c.in-3.is
-
-pub returns-in-4 : goal.returns-in-4
-returns-in-4 c = rw c.in-4.is
-
 pub returns-in_default : goal.returns-in_default
 returns-in_default c =
     let none : (n : ℕ) → 1 < n → n < 5 → c.args.number ≡ n → ⊥ = λ n low few is. omega arith in

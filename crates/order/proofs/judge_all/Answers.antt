@@ -1,4 +1,5 @@
 -- `judge_all` meets its contract. The loop keeps `Kept`: what is left, judged, is the whole list judged.
+use Rattle.std.specs.Prelude.{Ok, Err}
 use mathlib.Core.Path.{◌≡◌, refl, sym, ◌∙◌}
 use mathlib.Core.List.{List, [], ◌∷◌}
 use Prim.Native.Nat.{ℕ, ◌+◌, ◌≤◌, ◌<◌}
@@ -12,10 +13,10 @@ use Rattle.order.specs.declared.Order.{Order}
 use Rattle.order.specs.declared.Order.TheVariants.{BetweenMessages}
 use Rattle.order.specs.declared.Judged.{Judged}
 use Rattle.order.specs.declared.Judged.TheVariants.{Fits, Closes}
-use Rattle.order.specs.declared.Verdict.TheVariants.{Clean, InputOver}
 use Rattle.order.proofs.judge_all.Goals as goal
 use Rattle.order.proofs.judge_all.Goals.{in-Fits, in-Closes}
 use Rattle.order.proofs.judge_all.Invariants.{Kept}
+use Rattle.order.specs.declared.Disorder.TheVariants.{InputOver}
 
 start : (numbers : List ℕ) → Kept numbers BetweenMessages 0
 unfolding order_of
@@ -23,7 +24,7 @@ start numbers = record { within = omega arith; same = refl }
 
 module _ {numbers : List ℕ} {order : Order} {i : ℕ} (k : Kept numbers order i) where
   -- nothing is left
-  over : length numbers ≤ i → pick (is_between order) Clean InputOver ≡ order_of numbers
+  over : length numbers ≤ i → pick (is_between order) (Ok tt) (Err InputOver) ≡ order_of numbers
   unfolding order_from
   over ended =
       let last : i ≡ length numbers = omega (arith, k.within) in

@@ -1,7 +1,7 @@
 -- `judge_all` meets its contract. The loop keeps `Kept`: what is left, judged, is the whole list judged.
 use mathlib.Core.Path.{◌≡◌}
 use mathlib.Core.List.{List}
-use Prim.Native.Nat.{ℕ, ◌-◌, ◌≤◌}
+use Prim.Native.Nat.{ℕ, ◌≤◌}
 use lib.ListN.{length, drop}
 use Rattle.order.specs.Order.{order_from, order_of}
 use Rattle.order.specs.declared.Order.{Order}
@@ -14,6 +14,3 @@ pub record Kept (numbers : List ℕ) (order : Order) (i : ℕ) : Type 0 where
 
 abbrev pub invariant-loop-i : goal.invariant-loop-i
 invariant-loop-i l = Kept l.numbers l.order l.i
-
-abbrev pub decreases-loop-i : goal.decreases-loop-i
-decreases-loop-i l = length l.numbers - l.i

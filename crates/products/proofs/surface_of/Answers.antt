@@ -20,7 +20,7 @@ unfolding surface_of
 returns-in_default-sign_and_size c =
     simp (
       le-ltb _ _ c.if-s-lt6.false,
-      sym c.sign_and_size.ensures ∙ c.in-Number.is,
+      sym c.sign_and_size.ensures ∙ c.in-Some.is,
       sym c.sign_and_size-2.ensures ∙ c.in_default-sign_and_size.is,
     )
 
@@ -29,8 +29,8 @@ unfolding surface_of
 returns c =
     simp (
       le-ltb _ _ c.if-s-lt6.false,
-      sym c.sign_and_size.ensures ∙ c.in-Number.is,
-      sym c.sign_and_size-2.ensures ∙ c.in-Number-sign_and_size.is,
-      to_z-of_z {w = w32} {z = c.in-Number.factor} (sfits_of (search rules)),
-      to_z-of_z {w = w32} {z = c.in-Number-sign_and_size.value} (sfits_of (search rules)),
+      sym c.sign_and_size.ensures ∙ c.in-Some.is,
+      sym c.sign_and_size-2.ensures ∙ c.in-Some-sign_and_size.is,
+      to_z-of_z {w = w32} {z = c.in-Some.factor} (sfits_of (search rules)),
+      to_z-of_z {w = w32} {z = c.in-Some-sign_and_size.value} (sfits_of (search rules)),
     )

@@ -11,7 +11,7 @@ pub returns-in_default-surface_of : goal.returns-in_default-surface_of
 unfolding surfaces_of
 returns-in_default-surface_of c =
     rw (
-      sym c.surface_of.ensures ∙ c.in-Surface.is,
+      sym c.surface_of.ensures ∙ c.in-Some.is,
       ← c.from.ensures,
       ← c.surface_of-2.ensures,
       c.in_default-surface_of.is,
@@ -21,8 +21,8 @@ pub returns : goal.returns
 unfolding surfaces_of
 returns c =
     rw (
-      sym c.surface_of.ensures ∙ c.in-Surface.is,
+      sym c.surface_of.ensures ∙ c.in-Some.is,
       ← c.from.ensures,
       ← c.surface_of-2.ensures,
-      c.in-Surface-surface_of.is,
+      c.in-Some-surface_of.is,
     )

@@ -9,11 +9,6 @@ use Rattle.publish.proofs.outcome_of.Goals as goal
 pub loop-section-init : goal.loop-section-init
 loop-section-init c = rw (c.start-reading.ensures, c.unlisted-last.ensures) (first_counting c.args.file.now c.requires)
 
-pub overflow_add-place : goal.overflow_add-place
-overflow_add-place c =
-    let kept = c.loop-section.invariant in
-    omega (arith, kept.counted, kept.way.bounded.inside, c.requires)
-
 pub loop-section-smaller-in-Passes : goal.loop-section-smaller-in-Passes
 loop-section-smaller-in-Passes c =
     let kept = c.loop-section.invariant in
@@ -26,11 +21,6 @@ loop-section-preserved-in-Passes c =
     let kept = c.loop-section.invariant in
     counting c.args.file.now c.requires kept
     (steps.passes c.args.file.now c.requires _ _ kept.way.bounded (sees kept.way (sym c.look-seen.ensures ∙ c.in-Passes.is)))
-
-pub overflow_add-place-in-Closes : goal.overflow_add-place-in-Closes
-overflow_add-place-in-Closes c =
-    let kept = c.loop-section.invariant in
-    omega (arith, kept.counted, kept.way.bounded.inside, c.requires)
 
 pub loop-section-smaller : goal.loop-section-smaller
 loop-section-smaller c =

@@ -16,21 +16,18 @@ returns-then-dest-file c =
     let e = too_short args.file.now args.dest.now c.if-file-gt-MOST_OCTETS.false c.if-dest-file.true in
     record { answer = rw e; dest = rw e }
 
-pub put_copy-requires : goal.put_copy-requires
-put_copy-requires c = (c.if-file-gt-MOST_OCTETS.false, sym c.outcome_of-outcome.ensures ∙ c.in-Clean.is, c.if-dest-file.false)
-
-pub returns-in-Refused : goal.returns-in-Refused
+pub returns-in-Err : goal.returns-in-Err
 unfolding by_outcome
-returns-in-Refused c =
+returns-in-Err c =
     let args = c.args in
-    let ends = sym c.outcome_of-outcome.ensures ∙ c.in-Refused.is in
+    let ends = sym c.outcome_of-outcome.ensures ∙ c.in-Err.is in
     let e = by_walk args.file.now args.dest.now c.if-file-gt-MOST_OCTETS.false c.if-dest-file.false ends in
     record { answer = rw e; dest = rw e }
 
-pub returns-in-Clean : goal.returns-in-Clean
+pub returns-in-Ok : goal.returns-in-Ok
 unfolding by_outcome
-returns-in-Clean c =
+returns-in-Ok c =
     let args = c.args in
-    let ends = sym c.outcome_of-outcome.ensures ∙ c.in-Clean.is in
+    let ends = sym c.outcome_of-outcome.ensures ∙ c.in-Ok.is in
     let whole = by_walk args.file.now args.dest.now c.if-file-gt-MOST_OCTETS.false c.if-dest-file.false ends in
     record { answer = rw whole; dest = rw whole c.put_copy.ensures }

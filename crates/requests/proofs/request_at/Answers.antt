@@ -25,7 +25,7 @@ returns-in-80 c =
 pub returns-in-67 : goal.returns-in-67
 unfolding request_at
 returns-in-67 c =
-    c.copy_request_at.ensures
+    c.into_request_at.ensures
     ∙ simp (lt-leb _ _ c.if-input-at.false, c.in-67.is)
 
 pub returns-in-77 : goal.returns-in-77
@@ -37,7 +37,7 @@ returns-in-77 c =
 pub returns-in-70 : goal.returns-in-70
 unfolding request_at
 returns-in-70 c =
-    c.fields_request_at.ensures
+    c.payload_request_at.ensures
     ∙ simp (lt-leb _ _ c.if-input-at.false, c.in-70.is)
 
 pub returns-in-83 : goal.returns-in-83
@@ -49,7 +49,7 @@ returns-in-83 c =
 pub returns-in-73 : goal.returns-in-73
 unfolding request_at
 returns-in-73 c =
-    c.inventory_request_at.ensures
+    c.into_request_at-in-73.ensures
     ∙ simp (lt-leb _ _ c.if-input-at.false, c.in-73.is)
 
 pub returns-in-82 : goal.returns-in-82
@@ -67,7 +67,7 @@ returns-in-79 c =
 pub returns-in-84 : goal.returns-in-84
 unfolding request_at
 returns-in-84 c =
-    c.when_where_request_at.ensures
+    c.payload_request_at-in-84.ensures
     ∙ simp (lt-leb _ _ c.if-input-at.false, c.in-84.is)
 
 pub returns-in_default : goal.returns-in_default

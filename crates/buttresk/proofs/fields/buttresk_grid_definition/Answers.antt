@@ -8,4 +8,4 @@ returns-in_default c = rw (← c.from_payload.ensures, c.in_default.is)
 
 pub returns : goal.returns
 unfolding grid_fields
-returns c = rw (← c.from_payload.ensures, c.in-Fields.is)
+returns c = rw (← c.from_payload.ensures, c.in-Some.is)

@@ -9,4 +9,4 @@ returns-in_default c = c.no_identification.ensures ∙ rw (← c.from_payload.en
 
 pub returns : goal.returns
 unfolding identification_fields
-returns c = rw (← c.from_payload.ensures, c.in-Fields.is)
+returns c = rw (← c.from_payload.ensures, c.in-Some.is)

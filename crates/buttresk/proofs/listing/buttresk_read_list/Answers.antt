@@ -3,4 +3,8 @@ use mathlib.Core.Path.{◌∙◌}
 use Rattle.buttresk.proofs.listing.buttresk_read_list.Goals as goal
 
 pub returns : goal.returns
-returns c = record { answer = c.read_answer_of.ensures ∙ rw c.read_list.ensures.answer; entries = c.read_list.ensures.table }
+returns c =
+    record {
+      answer = c.from.ensures ∙ rw c.read_list.ensures.answer;
+      entries = c.read_list.ensures.table;
+    }

@@ -15,7 +15,7 @@ returns c =
     c.product_fields-2.ensures
     ∙ rw (
       sym c.reading_of.ensures,
-      c.in-Named.is,
+      c.in-Some.is,
       c.product_of.ensures,
       c.from_payload.ensures,
     )

@@ -6,15 +6,15 @@ use Rattle.buttresk.proofs.product.buttresk_when_and_where.Goals as goal
 pub returns-in_default : goal.returns-in_default
 unfolding when_where_fields when_where_by
 returns-in_default c =
-    c.when_where_fields.ensures
+    c.from.ensures
     ∙ rw (sym c.reading_of.ensures, c.in_default.is)
 
 pub returns : goal.returns
 unfolding when_where_fields when_where_by
 returns c =
-    c.when_where_fields-2.ensures
+    c.from-2.ensures
     ∙ rw (
       sym c.reading_of.ensures,
-      c.in-Named.is,
+      c.in-Some.is,
       c.when_and_where.ensures,
     )

@@ -1,15 +1,20 @@
--- `product_fields` meets its contract: each field is what the library says, in numbers.
-use Rattle.buttresk.specs.Product.{fields_of}
+-- `product_fields` meets its contract: each field is what the library says, in numbers, where there
+-- is a definition and where there is none.
+use Rattle.buttresk.specs.Product.{definition_fields, fields_of}
 use Rattle.buttresk.proofs.product.product_fields.Goals as goal
+use Rattle.buttresk.proofs.product.product_fields.Goals.{in-Some, in-None}
 
 pub returns : goal.returns
-unfolding fields_of
+unfolding definition_fields fields_of
 returns c =
     rw (
-      c.surfaces_field.ensures,
-      c.time_field.ensures,
-      c.octet_field-3.ensures,
-      c.octet_field-2.ensures,
-      c.octet_field.ensures,
-      c.definition_fields-definition.ensures,
+      c.from-5.ensures,
+      c.from-4.ensures,
+      c.from-3.ensures,
+      c.from-2.ensures,
+      c.from.ensures,
     )
+    (elim c.match-definition.branch [
+      | in-Some w ↦ rw (w.known-is, w.in-Some.is)
+      | in-None w ↦ rw (w.known-is, w.in-None.is)
+    ])

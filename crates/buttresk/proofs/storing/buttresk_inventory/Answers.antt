@@ -3,4 +3,8 @@ use mathlib.Core.Path.{◌∙◌}
 use Rattle.buttresk.proofs.storing.buttresk_inventory.Goals as goal
 
 pub returns : goal.returns
-returns c = record { answer = c.five_of.ensures ∙ rw (c.inventory_end.ensures, c.inventory.ensures.answer); text = c.inventory.ensures.text }
+returns c =
+    record {
+      answer = c.from.ensures ∙ rw (c.inventory_end.ensures, c.inventory.ensures.answer);
+      text = c.inventory.ensures.text;
+    }

@@ -3,4 +3,8 @@ use mathlib.Core.Path.{◌∙◌}
 use Rattle.buttresk.proofs.storing.buttresk_publish.Goals as goal
 
 pub returns : goal.returns
-returns c = record { answer = c.five_of.ensures ∙ rw (c.copy_end.ensures, c.publish.ensures.answer); dest = c.publish.ensures.dest }
+returns c =
+    record {
+      answer = c.from.ensures ∙ rw (c.copy_end.ensures, c.publish.ensures.answer);
+      dest = c.publish.ensures.dest;
+    }

@@ -3,4 +3,8 @@ use mathlib.Core.Path.{◌∙◌}
 use Rattle.buttresk.proofs.storing.buttresk_write.Goals as goal
 
 pub returns : goal.returns
-returns c = record { answer = c.five_of.ensures ∙ rw (c.write_end.ensures, c.write.ensures.answer); dest = c.write.ensures.dest }
+returns c =
+    record {
+      answer = c.from.ensures ∙ rw (c.write_end.ensures, c.write.ensures.answer);
+      dest = c.write.ensures.dest;
+    }

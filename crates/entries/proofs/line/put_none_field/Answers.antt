@@ -4,7 +4,7 @@ use native.Mathlib.Omega.{arith}
 use native.Mathlib.Numerals.{towards_suc}
 use mathlib.Core.Path.{◌≡◌, ap, ◌∙◌}
 use mathlib.Core.List.{List, [], ◌∷◌, ◌++◌, append_assoc}
-use lib.ListN.{length, take, drop, set, length-set}
+use lib.ListN.{length, take, drop, set}
 use lib.Seq.{sets, sets-eq}
 use Rattle.entries.specs.Put.{PutBefore}
 use Rattle.entries.proofs.line.put_none_field.Goals as goal
@@ -24,18 +24,6 @@ five dest end a b c d e some room =
       starts = whole;
       same = stored ∙ split ∙ ap (λ (n : ℕ). take at dest ++ ((a ∷ b ∷ c ∷ d ∷ e ∷ []) ++ drop n dest)) whole;
     }
-
-pub bounds-dest-at-2 : goal.bounds-dest-at-2
-bounds-dest-at-2 c = simp length-set (omega (arith, c.requires))
-
-pub bounds-dest-at-3 : goal.bounds-dest-at-3
-bounds-dest-at-3 c = simp length-set (omega (arith, c.requires))
-
-pub bounds-dest-at-4 : goal.bounds-dest-at-4
-bounds-dest-at-4 c = simp length-set (omega (arith, c.requires))
-
-pub bounds-dest-at-5 : goal.bounds-dest-at-5
-bounds-dest-at-5 c = simp length-set (omega (arith, c.requires))
 
 pub returns : goal.returns
 returns c = five _ _ _ _ _ _ _ c.requires.0 c.requires.1

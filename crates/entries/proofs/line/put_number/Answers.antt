@@ -3,11 +3,11 @@ use Prim.Native.Nat.{ℕ, ◌+◌, ◌-◌, ◌≤◌, ◌<◌, ◌/◌, ◌%◌
 use native.Mathlib.Omega.{arith}
 use mathlib.Core.Path.{◌≡◌, sym, ap, subst, ◌∙◌}
 use mathlib.Core.List.{List, [], ◌∷◌, ◌++◌, append_assoc, append-nil}
-use lib.ListN.{length, set, length-append, length-set}
+use lib.ListN.{length, set, length-append}
 use Rattle.entries.specs.Decimal.{decimal}
 use Rattle.entries.specs.Put.{RoomFor, PutBefore}
 use Rattle.entries.proofs.Decimal.{decimal_digit, decimal_more, decimal_length, decimal_spells, spelling_length}
-use Rattle.entries.proofs.Put.{put_nothing, put_front, same_length}
+use Rattle.entries.proofs.Put.{put_nothing, put_front}
 use Rattle.entries.proofs.line.put_number.Goals as goal
 use Rattle.entries.proofs.line.put_number.Invariants.{Kept}
 
@@ -23,18 +23,9 @@ start dest end number small room =
     }
 
 module _ {dest : List ℕ} {end number : ℕ} {d : List ℕ} {at left : ℕ} (k : Kept dest end number d at left) where
-  long : length d ≡ length dest
-  long = same_length k.within k.put
-
   -- there is room for a digit
-  some : (0 < at) × (at - 1 < length d)
-  some =
-      let least = spelling_length (decimal_spells left k.small) in
-      let room = k.room in
-      let within = k.within in
-      let starts = k.put.starts in
-      let same = long in
-      (omega arith, omega arith)
+  some : 0 < at
+  some = omega (arith, spelling_length (decimal_spells left k.small), k.room)
 
   on : 10 ≤ left → Kept dest end number (set d (at - 1) (48 + left % 10)) (at - 1) (left / 10)
   on high =
@@ -51,35 +42,26 @@ module _ {dest : List ℕ} {end number : ℕ} {d : List ℕ} {at left : ℕ} (k 
             sym (append_assoc (decimal (left / 10)) ((48 + left % 10) ∷ []) k.done)
             ∙ ap (λ (s : List ℕ). s ++ k.done) (sym more)
             ∙ k.all;
-        put = put_front k.within k.put some.0;
+        put = put_front k.within k.put some;
       }
 
   last : left < 10 → PutBefore end (decimal number) dest (at - 1) (set d (at - 1) (48 + left))
   last low =
       subst (λ (s : List ℕ). PutBefore end s dest (at - 1) (set d (at - 1) (48 + left)))
       (ap (λ (s : List ℕ). s ++ k.done) (sym (decimal_digit left low)) ∙ k.all)
-      (put_front k.within k.put some.0)
+      (put_front k.within k.put some)
 
 pub loop-left-init : goal.loop-left-init
 loop-left-init c = start _ _ _ (omega arith) c.requires
 
 pub overflow_sub-at : goal.overflow_sub-at
-overflow_sub-at c = (some c.loop-left.invariant).0
-
-pub bounds-dest-at : goal.bounds-dest-at
-bounds-dest-at c = (some c.loop-left.invariant).1
+overflow_sub-at c = some c.loop-left.invariant
 
 pub loop-left-preserved : goal.loop-left-preserved
 loop-left-preserved c = on c.loop-left.invariant c.loop-left-test.true
 
 pub overflow_sub-at-2 : goal.overflow_sub-at-2
-overflow_sub-at-2 c = (some c.loop-left.invariant).0
-
-pub bounds-dest-at-2 : goal.bounds-dest-at-2
-bounds-dest-at-2 c = (some c.loop-left.invariant).1
-
-pub shape_of-dest : goal.shape_of-dest
-shape_of-dest c = simp length-set (long c.loop-left.invariant)
+overflow_sub-at-2 c = some c.loop-left.invariant
 
 pub returns : goal.returns
 returns c =

@@ -15,16 +15,6 @@ discipline_room : {end n start : ℕ} {dest exit : List ℕ} → n < 256
     → PutBefore end (colon ∷ decimal n) dest start exit → end ≤ start + 4
 discipline_room small put = number_field_room 2 (omega arith) (omega arith) put
 
-pub put_number_field-at-requires-2 : goal.put_number_field-at-requires-2
-put_number_field-at-requires-2 c =
-    let discipline = discipline_room (omega arith) c.put_number_field-at.ensures.text in
-    (omega arith, search rules)
-
-pub put_number_field-at-requires-3 : goal.put_number_field-at-requires-3
-put_number_field-at-requires-3 c =
-    let discipline = discipline_room (omega arith) c.put_number_field-at.ensures.text in
-    (omega arith, search rules)
-
 pub put_number-start-requires : goal.put_number-start-requires
 put_number-start-requires c =
     let discipline = discipline_room (omega arith) c.put_number_field-at.ensures.text in

@@ -11,21 +11,21 @@ returns-in_default c = c.refuse.ensures ∙ rw (sym c.least_payload_of-known.ens
 pub returns-then-is_cut : goal.returns-then-is_cut
 unfolding payload_at
 returns-then-is_cut c =
-    let least = sym c.least_payload_of-known.ensures ∙ c.in-Octets.is in
+    let least = sym c.least_payload_of-known.ensures ∙ c.in-Some.is in
     c.refuse-then-is_cut.ensures
     ∙ simp (least, ← c.is_cut.ensures, c.if-is_cut.true, c.missing.ensures)
 
 pub returns-then-payload-least : goal.returns-then-payload-least
 unfolding payload_at
 returns-then-payload-least c =
-    let least = sym c.least_payload_of-known.ensures ∙ c.in-Octets.is in
+    let least = sym c.least_payload_of-known.ensures ∙ c.in-Some.is in
     c.refuse-then-payload-least.ensures
     ∙ simp (least, ← c.is_cut.ensures, c.if-is_cut.false, lt-ltb _ _ c.if-payload-least.true)
 
 pub returns-then-rest-length : goal.returns-then-rest-length
 unfolding payload_at
 returns-then-rest-length c =
-    let least = sym c.least_payload_of-known.ensures ∙ c.in-Octets.is in
+    let least = sym c.least_payload_of-known.ensures ∙ c.in-Some.is in
     c.refuse-then-rest-length.ensures
     ∙ simp (
       least,
@@ -38,7 +38,7 @@ returns-then-rest-length c =
 pub returns : goal.returns
 unfolding payload_at
 returns c =
-    let least = sym c.least_payload_of-known.ensures ∙ c.in-Octets.is in
+    let least = sym c.least_payload_of-known.ensures ∙ c.in-Some.is in
     c.section_at.ensures
     ∙ simp (
       least,

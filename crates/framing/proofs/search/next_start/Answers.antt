@@ -12,10 +12,10 @@ pub loop-i-init : goal.loop-i-init
 loop-i-init c = (search rules, λ k below from. absurd (omega arith))
 
 pub returns-then-g-last : goal.returns-then-g-last
-returns-then-g-last c = found_start _ _ _ c.loop-i.invariant.1 c.grib_in_four-found.ensures _ c.in-At.is c.loop-i.invariant.0 (omega arith)
+returns-then-g-last c = found_start _ _ _ c.loop-i.invariant.1 c.grib_in_four-found.ensures _ c.in-Some.is c.loop-i.invariant.0 (omega arith)
 
-pub returns-in-At : goal.returns-in-At
-returns-in-At c = found_late _ _ _ c.loop-i.invariant.1 c.grib_in_four-found.ensures _ c.in-At.is (omega arith)
+pub returns-in-Some : goal.returns-in-Some
+returns-in-Some c = found_late _ _ _ c.loop-i.invariant.1 c.grib_in_four-found.ensures _ c.in-Some.is (omega arith)
 
 pub loop-i-preserved : goal.loop-i-preserved
 loop-i-preserved c = (omega arith, not_found _ _ _ c.loop-i.invariant.1 c.grib_in_four-found.ensures c.in_default.is)

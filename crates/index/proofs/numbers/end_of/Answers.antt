@@ -2,10 +2,10 @@
 use Rattle.index.specs.Numbers.{end_of}
 use Rattle.index.proofs.numbers.end_of.Goals as goal
 
-pub returns-in-Clean : goal.returns-in-Clean
+pub returns-in-Ok : goal.returns-in-Ok
 unfolding end_of
-returns-in-Clean c = rw c.in-Clean.is
+returns-in-Ok c = rw c.in-Ok.is
 
-pub returns-in-Refused : goal.returns-in-Refused
+pub returns-in-Err : goal.returns-in-Err
 unfolding end_of
-returns-in-Refused c = rw (c.refusal_detail.ensures, c.refusal_number.ensures, c.in-Refused.is)
+returns-in-Err c = rw (c.refusal_detail.ensures, c.refusal_number.ensures, c.in-Err.is)

@@ -40,12 +40,6 @@ slice_bounds-put_line-count c = starts _ c.spell-line.ensures
 pub slice_bounds-put_line-start : goal.slice_bounds-put_line-start
 slice_bounds-put_line-start c = let low = starts _ c.spell-line.ensures in search rules
 
-pub slice_bounds-put_line-end : goal.slice_bounds-put_line-end
-slice_bounds-put_line-end c =
-    let low = starts _ c.spell-line.ensures in
-    let long : length c.spell-line.result.octets ≡ 98 = search rules in
-    search rules
-
 pub returns : goal.returns
 returns c =
     let long : length c.spell-line.result.octets ≡ 98 = search rules in

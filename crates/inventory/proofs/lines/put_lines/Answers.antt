@@ -1,8 +1,22 @@
 -- `put_lines` meets its contract: the lines so far are written, and those to come make up the rest.
 use mathlib.Core.Path.{sym, ap, ◌∙◌}
-use native.Mathlib.Omega.{arith}
 use Rattle.inventory.specs.Turn.{due_by}
-use Rattle.inventory.proofs.Turns.{first, by_seen_lem, count_below, few_before, room_before, nearer, due_told, no_line, a_line, remembers_0, remembers_4, remembers_none, remembering, stops, turn, ended}
+use Rattle.inventory.proofs.Turns.{
+  first,
+  by_seen_lem,
+  few_before,
+  nearer,
+  due_told,
+  no_line,
+  a_line,
+  remembers_0,
+  remembers_4,
+  remembers_none,
+  remembering,
+  stops,
+  turn,
+  ended,
+}
 use Rattle.inventory.proofs.lines.put_lines.Goals as goal
 
 pub loop-section-init : goal.loop-section-init
@@ -10,19 +24,7 @@ loop-section-init c =
     rw (c.start-reading.ensures, c.unlisted-last.ensures, c.blank-memory.ensures)
     (first c.args.file.now c.args.text.now c.requires.1)
 
--- a section that passes: what the turn tells
-pub overflow_add-place : goal.overflow_add-place
-overflow_add-place c =
-    let file = c.args.file.now in
-    let text = c.args.text.now in
-    let fits = c.requires.1 in
-    let so_far = c.loop-section.invariant in
-    let seen =
-    by_seen_lem file text fits so_far _ (sym c.look-seen.ensures ∙ c.in-Passes.is) in
-    let low = count_below file text fits so_far seen in
-    omega arith
-
--- it completes a submessage
+-- a section that passes, what the turn tells: it completes a submessage
 pub remembered-with_it-requires : goal.remembered-with_it-requires
 remembered-with_it-requires c =
     let file = c.args.file.now in
@@ -32,18 +34,6 @@ remembered-with_it-requires c =
     let seen =
     by_seen_lem file text fits so_far _ (sym c.look-seen.ensures ∙ c.in-Passes.is) in
     few_before file text fits so_far seen
-
-pub put_memory-octets-requires : goal.put_memory-octets-requires
-put_memory-octets-requires c =
-    let file = c.args.file.now in
-    let text = c.args.text.now in
-    let fits = c.requires.1 in
-    let so_far = c.loop-section.invariant in
-    let seen =
-    by_seen_lem file text fits so_far _ (sym c.look-seen.ensures ∙ c.in-Passes.is) in (
-      c.requires.0,
-      room_before file text fits so_far seen,
-    )
 
 pub loop-section-smaller-then-completing : goal.loop-section-smaller-then-completing
 loop-section-smaller-then-completing c =
@@ -139,18 +129,6 @@ loop-section-preserved-else-section-eq-NUMBER-2 c =
     (no_line file c.loop-section.memory c.loop-section.octets c.loop-section.text))
 
 -- a section that closes its message
-pub put_memory-octets-requires-in-Closes : goal.put_memory-octets-requires-in-Closes
-put_memory-octets-requires-in-Closes c =
-    let file = c.args.file.now in
-    let text = c.args.text.now in
-    let fits = c.requires.1 in
-    let so_far = c.loop-section.invariant in
-    let seen =
-    by_seen_lem file text fits so_far _ (sym c.look-seen.ensures ∙ c.in-Closes.is) in (
-      c.requires.0,
-      room_before file text fits so_far seen,
-    )
-
 pub remembered-memory-requires : goal.remembered-memory-requires
 remembered-memory-requires c =
     let file = c.args.file.now in
@@ -160,17 +138,6 @@ remembered-memory-requires c =
     let seen =
     by_seen_lem file text fits so_far _ (sym c.look-seen.ensures ∙ c.in-Closes.is) in
     few_before file text fits so_far seen
-
-pub overflow_add-place-in-Closes : goal.overflow_add-place-in-Closes
-overflow_add-place-in-Closes c =
-    let file = c.args.file.now in
-    let text = c.args.text.now in
-    let fits = c.requires.1 in
-    let so_far = c.loop-section.invariant in
-    let seen =
-    by_seen_lem file text fits so_far _ (sym c.look-seen.ensures ∙ c.in-Closes.is) in
-    let low = count_below file text fits so_far seen in
-    omega arith
 
 pub loop-section-smaller : goal.loop-section-smaller
 loop-section-smaller c =
@@ -193,9 +160,6 @@ loop-section-preserved c =
     rw c.remembered-memory.ensures
     (turn file text fits so_far seen
     (a_line file c.loop-section.memory c.put_memory-octets-in-Closes.ensures).1)
-
-pub shape_of-text-in_default : goal.shape_of-text-in_default
-shape_of-text-in_default c = c.loop-section.invariant.same_length
 
 -- anything else ends the walk
 pub returns-in_default : goal.returns-in_default

@@ -1,4 +1,5 @@
 -- `put_memory` meets its contract: no line is due, or that of what is remembered.
+use Rattle.std.specs.Prelude.{Some, None}
 use Prim.Native.Nat.{ℕ}
 use native.Mathlib.Omega.{arith}
 use native.Mathlib.Nat.{add-zero}
@@ -7,7 +8,6 @@ use mathlib.Core.List.{List, [], append-nil}
 use lib.ListN.{take-append-drop}
 use Rattle.sections.specs.Indicator.{indicator_of}
 use Rattle.sections.specs.declared.indicator.Indicator.{Indicator}
-use Rattle.sections.specs.declared.indicator.MaybeIndicator.TheVariants.{Fields, NoIndicator}
 use Rattle.products.specs.Products.{product_of}
 use Rattle.products.specs.declared.templates.TemplateReading.TheVariants.{ByManual}
 use Rattle.products.proofs.Rows.{product_by_the_table}
@@ -29,13 +29,13 @@ nothing_put at text =
       put = λ fits. sym (rw add-zero (take-append-drop at text));
     }
 
-no_entry : (file : List ℕ) (m : Memory) → indicator_of (own_octets file m.zeroth) ≡ NoIndicator
+no_entry : (file : List ℕ) (m : Memory) → indicator_of (own_octets file m.zeroth) ≡ None
     → text_of (entries_in file m) ≡ []
 unfolding entries_in indicator_in text_of
 no_entry file m e = rw e
 
 one_entry : (file : List ℕ) (m : Memory) {indicator : Indicator}
-    → indicator_of (own_octets file m.zeroth) ≡ Fields indicator
+    → indicator_of (own_octets file m.zeroth) ≡ Some indicator
     → text_of (entries_in file m)
     ≡ entry_line (entry_in m indicator (product_of ByManual (payload_of file m.fourth)))
 unfolding entries_in indicator_in text_of
@@ -57,12 +57,6 @@ returns-in_default c =
     ∙ c.in_default.is))
     (nothing_put a.at a.text.now)
 
-pub put_entry-requires : goal.put_entry-requires
-put_entry-requires c = c.requires.1
-
-pub shape_of-text : goal.shape_of-text
-shape_of-text c = c.put_entry.ensures.same_length
-
 pub returns : goal.returns
 returns c =
     let a = c.args in
@@ -73,6 +67,6 @@ returns c =
     as_text a.file.now a.memory
     (one_entry a.file.now a.memory
     (ap indicator_of (sym c.own_octets.ensures) ∙ sym c.from_section-known.ensures
-    ∙ c.in-Fields.is)
+    ∙ c.in-Some.is)
     ∙ sym (ap entry_line (c.entry_in.ensures ∙ rw product)))
     c.put_entry.ensures

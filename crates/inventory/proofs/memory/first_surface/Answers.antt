@@ -2,10 +2,10 @@
 use Rattle.inventory.specs.Inventory.{first_surface}
 use Rattle.inventory.proofs.memory.first_surface.Goals as goal
 
-pub returns-in-Both : goal.returns-in-Both
+pub returns-in-Some : goal.returns-in-Some
 unfolding first_surface
-returns-in-Both c = rw c.in-Both.is
+returns-in-Some c = rw c.in-Some.is
 
-pub returns-in-NoSurfaces : goal.returns-in-NoSurfaces
+pub returns-in-None : goal.returns-in-None
 unfolding first_surface
-returns-in-NoSurfaces c = rw c.in-NoSurfaces.is
+returns-in-None c = rw c.in-None.is

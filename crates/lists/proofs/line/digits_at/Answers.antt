@@ -1,12 +1,10 @@
--- `digits_at` meets its contract. The loop's invariant: what is read on from `i` behind `value` is the
--- answer.
+-- `digits_at` meets its contract. The loop's invariant: what is read on from `i` behind `value` is
+-- the answer.
 use native.Mathlib.Omega.{arith}
-use mathlib.Core.Path.{refl, sym, ◌∙◌}
-use borrow.Author.Rules.{rules}
+use mathlib.Core.Path.{sym, ◌∙◌}
 use Rattle.lists.specs.Line.{number_taken}
 use Rattle.lists.proofs.Places.{
   digit_low,
-  digit_high,
   digits_behind,
   digits_closed,
   digits_not_closed,
@@ -14,9 +12,6 @@ use Rattle.lists.proofs.Places.{
   digits_further,
 }
 use Rattle.lists.proofs.line.digits_at.Goals as goal
-
-pub loop-i-init : goal.loop-i-init
-loop-i-init c = (search rules, refl)
 
 pub returns-then-octet-close : goal.returns-then-octet-close
 unfolding number_taken
@@ -34,12 +29,6 @@ returns-then-not-is_digit c =
 
 pub overflow_sub-value : goal.overflow_sub-value
 overflow_sub-value c = digit_low _ (sym c.is_digit.ensures ∙ c.if-not-is_digit.false)
-
-pub overflow_cast-value : goal.overflow_cast-value
-overflow_cast-value c = omega (arith, digit_high _ (sym c.is_digit.ensures ∙ c.if-not-is_digit.false))
-
-pub overflow_add-value : goal.overflow_add-value
-overflow_add-value c = omega (arith, digit_high _ (sym c.is_digit.ensures ∙ c.if-not-is_digit.false))
 
 pub returns-then-most-value : goal.returns-then-most-value
 unfolding number_taken

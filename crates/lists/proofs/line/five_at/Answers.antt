@@ -14,7 +14,7 @@ pub returns-in_default-octet_at : goal.returns-in_default-octet_at
 unfolding take_five five_taken octet_taken time_taken
 returns-in_default-octet_at c =
     rw (
-      answers (octet_taken _) c.octet_at.ensures c.in-Field.is,
+      answers (octet_taken _) c.octet_at.ensures c.in-Some.is,
       answers (octet_taken _) c.octet_at-2.ensures c.in_default-octet_at.is,
     )
 
@@ -22,8 +22,8 @@ pub returns-in_default-time_at : goal.returns-in_default-time_at
 unfolding take_five five_taken octet_taken time_taken
 returns-in_default-time_at c =
     rw (
-      answers (octet_taken _) c.octet_at.ensures c.in-Field.is,
-      answers (octet_taken _) c.octet_at-2.ensures c.in-Field-octet_at.is,
+      answers (octet_taken _) c.octet_at.ensures c.in-Some.is,
+      answers (octet_taken _) c.octet_at-2.ensures c.in-Some-octet_at.is,
       answers (time_taken _) c.time_at.ensures c.in_default-time_at.is,
     )
 
@@ -31,9 +31,9 @@ pub returns-in_default-octet_at-2 : goal.returns-in_default-octet_at-2
 unfolding take_five five_taken octet_taken time_taken
 returns-in_default-octet_at-2 c =
     rw (
-      answers (octet_taken _) c.octet_at.ensures c.in-Field.is,
-      answers (octet_taken _) c.octet_at-2.ensures c.in-Field-octet_at.is,
-      answers (time_taken _) c.time_at.ensures c.in-Fields.is,
+      answers (octet_taken _) c.octet_at.ensures c.in-Some.is,
+      answers (octet_taken _) c.octet_at-2.ensures c.in-Some-octet_at.is,
+      answers (time_taken _) c.time_at.ensures c.in-Some-time_at.is,
       answers (octet_taken _) c.octet_at-3.ensures c.in_default-octet_at-2.is,
     )
 
@@ -41,8 +41,8 @@ pub returns : goal.returns
 unfolding take_five five_taken octet_taken time_taken
 returns c =
     rw (
-      answers (octet_taken _) c.octet_at.ensures c.in-Field.is,
-      answers (octet_taken _) c.octet_at-2.ensures c.in-Field-octet_at.is,
-      answers (time_taken _) c.time_at.ensures c.in-Fields.is,
-      answers (octet_taken _) c.octet_at-3.ensures c.in-Field-octet_at-2.is,
+      answers (octet_taken _) c.octet_at.ensures c.in-Some.is,
+      answers (octet_taken _) c.octet_at-2.ensures c.in-Some-octet_at.is,
+      answers (time_taken _) c.time_at.ensures c.in-Some-time_at.is,
+      answers (octet_taken _) c.octet_at-3.ensures c.in-Some-octet_at-2.is,
     )

@@ -16,7 +16,7 @@ pub returns-in_default-number_at : goal.returns-in_default-number_at
 unfolding take_four four_taken number_taken
 returns-in_default-number_at c =
     rw (
-      answers (number_taken _) c.number_at.ensures c.in-Number.is,
+      answers (number_taken _) c.number_at.ensures c.in-Some.is,
       answers (number_taken _) c.number_at-2.ensures c.in_default-number_at.is,
     )
 
@@ -24,8 +24,8 @@ pub returns-in_default-number_at-2 : goal.returns-in_default-number_at-2
 unfolding take_four four_taken number_taken
 returns-in_default-number_at-2 c =
     rw (
-      answers (number_taken _) c.number_at.ensures c.in-Number.is,
-      answers (number_taken _) c.number_at-2.ensures c.in-Number-number_at.is,
+      answers (number_taken _) c.number_at.ensures c.in-Some.is,
+      answers (number_taken _) c.number_at-2.ensures c.in-Some-number_at.is,
       answers (number_taken _) c.number_at-3.ensures c.in_default-number_at-2.is,
     )
 
@@ -33,9 +33,9 @@ pub returns-in_default-number_at-3 : goal.returns-in_default-number_at-3
 unfolding take_four four_taken number_taken
 returns-in_default-number_at-3 c =
     rw (
-      answers (number_taken _) c.number_at.ensures c.in-Number.is,
-      answers (number_taken _) c.number_at-2.ensures c.in-Number-number_at.is,
-      answers (number_taken _) c.number_at-3.ensures c.in-Number-number_at-2.is,
+      answers (number_taken _) c.number_at.ensures c.in-Some.is,
+      answers (number_taken _) c.number_at-2.ensures c.in-Some-number_at.is,
+      answers (number_taken _) c.number_at-3.ensures c.in-Some-number_at-2.is,
       answers (number_taken _) c.number_at-4.ensures c.in_default-number_at-3.is,
     )
 
@@ -45,15 +45,15 @@ overflow_cast-fields c =
     omega (
       arith,
       number_most 255 _ _ (omega arith)
-          (answers (number_taken _) c.number_at-4.ensures c.in-Number-number_at-3.is),
+          (answers (number_taken _) c.number_at-4.ensures c.in-Some-number_at-3.is),
     )
 
 pub returns : goal.returns
 unfolding take_four four_taken number_taken
 returns c =
     rw (
-      answers (number_taken _) c.number_at.ensures c.in-Number.is,
-      answers (number_taken _) c.number_at-2.ensures c.in-Number-number_at.is,
-      answers (number_taken _) c.number_at-3.ensures c.in-Number-number_at-2.is,
-      answers (number_taken _) c.number_at-4.ensures c.in-Number-number_at-3.is,
+      answers (number_taken _) c.number_at.ensures c.in-Some.is,
+      answers (number_taken _) c.number_at-2.ensures c.in-Some-number_at.is,
+      answers (number_taken _) c.number_at-3.ensures c.in-Some-number_at-2.is,
+      answers (number_taken _) c.number_at-4.ensures c.in-Some-number_at-3.is,
     )

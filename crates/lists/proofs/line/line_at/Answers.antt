@@ -14,7 +14,7 @@ pub returns-in_default-five_at : goal.returns-in_default-five_at
 unfolding take_line line_taken four_taken five_taken
 returns-in_default-five_at c =
     rw (
-      answers (four_taken _) c.four_at.ensures c.in-Four.is,
+      answers (four_taken _) c.four_at.ensures c.in-Some.is,
       answers (five_taken _) c.five_at.ensures c.in_default-five_at.is,
     )
 
@@ -22,6 +22,6 @@ pub returns : goal.returns
 unfolding take_line line_taken four_taken five_taken
 returns c =
     rw (
-      answers (four_taken _) c.four_at.ensures c.in-Four.is,
-      answers (five_taken _) c.five_at.ensures c.in-Five.is,
+      answers (four_taken _) c.four_at.ensures c.in-Some.is,
+      answers (five_taken _) c.five_at.ensures c.in-Some-five_at.is,
     )

@@ -1,11 +1,8 @@
 -- `number_at` meets its contract: one return for each first octet.
-use native.Mathlib.Omega.{arith}
 use mathlib.Core.Path.{sym, ◌∙◌}
-use borrow.Author.Rules.{rules}
 use Rattle.lists.specs.Line.{number_taken}
 use Rattle.lists.proofs.Places.{
   digit_low,
-  digit_high,
   number_behind,
   number_zero,
   number_zero_goes_on,
@@ -38,16 +35,6 @@ returns-then-not-is_digit c =
 
 pub overflow_sub-first : goal.overflow_sub-first
 overflow_sub-first c = digit_low _ (sym c.is_digit.ensures ∙ c.if-not-is_digit.false)
-
-pub overflow_cast-first : goal.overflow_cast-first
-overflow_cast-first c = omega (arith, digit_high _ (sym c.is_digit.ensures ∙ c.if-not-is_digit.false))
-
-pub digits_at-requires : goal.digits_at-requires
-digits_at-requires c =
-    record {
-      most = search rules;
-      first = omega (arith, digit_high _ (sym c.is_digit.ensures ∙ c.if-not-is_digit.false));
-    }
 
 pub returns : goal.returns
 returns c =

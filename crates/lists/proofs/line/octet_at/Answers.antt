@@ -35,7 +35,7 @@ overflow_cast-result c =
     omega (
       arith,
       number_most 255 _ _ (omega arith)
-          (answers (number_taken _) c.number_at.ensures c.in-Number.is),
+          (answers (number_taken _) c.number_at.ensures c.in-Some.is),
     )
 
 pub returns : goal.returns
@@ -44,5 +44,5 @@ returns c =
     rw (
       ← c.none_next.ensures,
       c.if-none_next.false,
-      answers (number_taken _) c.number_at.ensures c.in-Number.is,
+      answers (number_taken _) c.number_at.ensures c.in-Some.is,
     )

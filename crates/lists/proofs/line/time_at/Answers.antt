@@ -1,4 +1,5 @@
 -- `time_at` meets its contract: both none, one that is not in form, or two numbers.
+use Rattle.std.specs.Prelude.{None}
 use Prim.Native.Nat.{ℕ, ◌+◌}
 use native.Mathlib.Omega.{arith}
 use mathlib.Core.Path.{◌≡◌, sym, ap, ◌∙◌}
@@ -6,7 +7,6 @@ use mathlib.Core.Bool.{true, false}
 use mathlib.Core.List.{List}
 use lib.ListN.{drop}
 use lib.Seq.{drop-drop}
-use Rattle.products.specs.declared.MaybeTime.TheVariants.{NoTime}
 use Rattle.entries.specs.Entries.{colon}
 use Rattle.lists.specs.Line.{taken, not_taken, none_next, take_time, number_taken, time_taken}
 use Rattle.lists.proofs.Places.{answers, none_room}
@@ -16,11 +16,11 @@ use Rattle.lists.proofs.line.time_at.Goals as goal
 -- where the unit is none, the time is too, or it is not in form
 module _ (text : List ℕ) (at : ℕ) (none : none_next colon (drop at text) ≡ true) where
   both_none : none_next colon (drop (at + 5) text) ≡ true
-      → take_time (drop at text) ≡ taken NoTime (drop (at + 10) text)
+      → take_time (drop at text) ≡ taken None (drop (at + 10) text)
   unfolding take_time
   both_none both =
       rw (none, ap (none_next colon) (drop-drop 5 at text) ∙ both)
-      (ap (taken NoTime) (drop-drop 10 at text))
+      (ap (taken None) (drop-drop 10 at text))
 
   unit_none : none_next colon (drop (at + 5) text) ≡ false → take_time (drop at text) ≡ not_taken
   unfolding take_time
@@ -73,7 +73,7 @@ returns-in_default-number_at c =
     rw (
       ← c.none_next.ensures,
       c.if-none_next.false,
-      answers (number_taken _) c.number_at.ensures c.in-Number.is,
+      answers (number_taken _) c.number_at.ensures c.in-Some.is,
       answers (number_taken _) c.number_at-2.ensures c.in_default-number_at.is,
     )
 
@@ -83,7 +83,7 @@ overflow_cast-fields c =
     omega (
       arith,
       number_most 255 _ _ (omega arith)
-          (answers (number_taken _) c.number_at.ensures c.in-Number.is),
+          (answers (number_taken _) c.number_at.ensures c.in-Some.is),
     )
 
 pub overflow_cast-fields-2 : goal.overflow_cast-fields-2
@@ -92,7 +92,7 @@ overflow_cast-fields-2 c =
     omega (
       arith,
       number_most 4294967295 _ _ (omega arith)
-          (answers (number_taken _) c.number_at-2.ensures c.in-Number-number_at.is),
+          (answers (number_taken _) c.number_at-2.ensures c.in-Some-number_at.is),
     )
 
 pub returns : goal.returns
@@ -101,6 +101,6 @@ returns c =
     rw (
       ← c.none_next.ensures,
       c.if-none_next.false,
-      answers (number_taken _) c.number_at.ensures c.in-Number.is,
-      answers (number_taken _) c.number_at-2.ensures c.in-Number-number_at.is,
+      answers (number_taken _) c.number_at.ensures c.in-Some.is,
+      answers (number_taken _) c.number_at-2.ensures c.in-Some-number_at.is,
     )

@@ -1,25 +1,26 @@
 -- `entry_numbers` meets its contract: each number is the entry's.
+use Rattle.std.specs.Prelude.{Option, Some, None}
 use Prim.Native.Nat.{ℕ}
 use mathlib.Core.Path.{◌≡◌, refl}
 use mathlib.Core.List.{List, [], ◌∷◌, ◌++◌}
 use lib.ListN.{get_or}
-use Rattle.products.specs.declared.MaybeOctet.{MaybeOctet}
-use Rattle.products.specs.declared.MaybeOctet.TheVariants.{Octet, NoOctet}
-use Rattle.products.specs.declared.MaybeTime.{MaybeTime}
-use Rattle.products.specs.declared.MaybeTime.TheVariants.{Time, NoTime}
 use Rattle.lists.specs.Lists.{octet_numbers, time_numbers, entry_numbers}
 use Rattle.lists.proofs.table.entry_numbers.Goals as goal
+use Rattle.products.specs.declared.ForecastTime.{ForecastTime}
 
 -- the numbers of a field, one by one
-two : (o : MaybeOctet) → octet_numbers o ≡ get_or (octet_numbers o) 0 0 ∷ get_or (octet_numbers o) 1 0 ∷ []
+two : (o : Option ℕ)
+    → octet_numbers o ≡ get_or (octet_numbers o) 0 0 ∷ get_or (octet_numbers o) 1 0 ∷ []
 unfolding octet_numbers
-two (Octet n) = refl
-two NoOctet = refl
+two (Some n) = refl
+two None = refl
 
-three : (t : MaybeTime) → time_numbers t ≡ get_or (time_numbers t) 0 0 ∷ get_or (time_numbers t) 1 0 ∷ get_or (time_numbers t) 2 0 ∷ []
+three : (t : Option ForecastTime)
+    → time_numbers t
+    ≡ get_or (time_numbers t) 0 0 ∷ get_or (time_numbers t) 1 0 ∷ get_or (time_numbers t) 2 0 ∷ []
 unfolding time_numbers
-three (Time t) = refl
-three NoTime = refl
+three (Some t) = refl
+three None = refl
 
 -- fields one behind the other
 in_turn : (front : List ℕ) {a b c d : List ℕ} {k l m n p q r s t : ℕ}
@@ -32,14 +33,10 @@ unfolding entry_numbers
 returns c =
     let e = c.args.entry in
     rw (
-      c.octet_value-3.ensures,
-      c.octet_known-3.ensures,
-      c.time_value.ensures,
-      c.unit_value.ensures,
-      c.time_known.ensures,
-      c.octet_value-2.ensures,
-      c.octet_known-2.ensures,
-      c.octet_value.ensures,
-      c.octet_known.ensures,
+      c.octet_numbers-category.ensures,
+      c.octet_numbers-number.ensures,
+      c.time_numbers-time.ensures,
+      c.octet_numbers-surface.ensures,
     )
-    (in_turn (e.message ∷ e.submessage ∷ e.offset.0 ∷ e.discipline ∷ []) (two e.category) (two e.number) (three e.time) (two e.surface))
+    (in_turn (e.message ∷ e.submessage ∷ e.offset.0 ∷ e.discipline ∷ []) (two e.category)
+    (two e.number) (three e.time) (two e.surface))

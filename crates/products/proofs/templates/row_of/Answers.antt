@@ -1,16 +1,16 @@
 -- `row_of` meets its contract: behind the last row there is none, else the row's columns.
+use Rattle.std.specs.Prelude.{Option}
 use Prim.Native.Nat.{ℕ, ◌/◌, ◌%◌, ◌<◌}
 use native.Mathlib.Omega.{arith}
 use mathlib.Core.Path.{◌≡◌}
 use mathlib.Core.List.{List}
 use lib.ListN.{length, get_or, get_or-eq_default}
 use Rattle.products.specs.Rows.{none, column, columns}
-use Rattle.products.specs.declared.templates.Index.{Index}
 use Rattle.products.specs.declared.templates.TimeOctets.TheVariants.{Four}
 use Rattle.products.proofs.EachEntry.{inside_it}
 use Rattle.products.proofs.templates.row_of.Goals as goal
 
-read : (lent : List ℕ) (n : ℕ) (process time surfaces : Index) → n < length lent
+read : (lent : List ℕ) (n : ℕ) (process time surfaces : Option ℕ) → n < length lent
     → process ≡ column (get_or lent n 0 % 256) → time ≡ column (get_or lent n 0 / 256 % 256)
     → surfaces ≡ column (get_or lent n 0 / 65536)
     → record { process = process; time = time; width = Four; surfaces = surfaces }

@@ -23,13 +23,13 @@ pub returns-then-number-eq-NUMBER : goal.returns-then-number-eq-NUMBER
 unfolding WholeAhead is_cut
 returns-then-number-eq-NUMBER c =
     λ e.
-    let least = sym c.least_payload_of-known.ensures ∙ c.in-Octets.is in
+    let least = sym c.least_payload_of-known.ensures ∙ c.in-Some.is in
     (c.if-whole-lt-HEADER_SIZE.false, passes _ _ _ _ least c.if-whole-lt-HEADER_SIZE.false c.if-whole-least.false (simp (eq-eqb _ _ c.if-number-eq-NUMBER.true)))
 
 pub returns : goal.returns
 unfolding WholeAhead
 returns c =
     λ e.
-    let least = sym c.least_payload_of-known.ensures ∙ c.in-Octets.is in
+    let least = sym c.least_payload_of-known.ensures ∙ c.in-Some.is in
     let whole = uncut _ _ _ _ least c.if-whole-lt-HEADER_SIZE.false c.if-whole-least.false (leb-true _ _ e) in
     (c.if-whole-lt-HEADER_SIZE.false, passes _ _ _ _ least c.if-whole-lt-HEADER_SIZE.false c.if-whole-least.false whole)

@@ -21,14 +21,16 @@ unfolding desk_walk
 returns-clause-answer c =
     c.walk-answer.ensures.answer
     ∙ ap (λ (lines : List Line). (walk_of c.args.file.now c.args.rows.now lines).answer)
-    (front c.args.room c.lent-most.result c.unset_line-unset.result c.lent-most.ensures c.unset_line-unset.ensures)
+    (front c.args.room c.min-most.result c.unset_line-unset.result
+    c.min-most.ensures c.unset_line-unset.ensures)
 
 pub returns-clause-rows : goal.returns-clause-rows
 unfolding desk_walk
 returns-clause-rows c =
     c.walk-answer.ensures.rows
     ∙ ap (λ (lines : List Line). (walk_of c.args.file.now c.args.rows.now lines).rows)
-    (front c.args.room c.lent-most.result c.unset_line-unset.result c.lent-most.ensures c.unset_line-unset.ensures)
+    (front c.args.room c.min-most.result c.unset_line-unset.result
+    c.min-most.ensures c.unset_line-unset.ensures)
 
 -- both parts of the table
 joined : (file rows : List ℕ) (room : ℕ) (lines lent rest : List Line) → lent ≡ replicate (min room 512) unset
@@ -40,6 +42,8 @@ joined file rows room lines lent rest l e r = rw (e, l, r)
 pub returns-clause-lines : goal.returns-clause-lines
 returns-clause-lines c =
     joined c.args.file.now c.args.rows.now c.args.room c.walk-answer.new.lines _ _
-    (front c.args.room c.lent-most.result c.unset_line-unset.result c.lent-most.ensures c.unset_line-unset.ensures)
+    (front c.args.room c.min-most.result c.unset_line-unset.result
+    c.min-most.ensures c.unset_line-unset.ensures)
     c.walk-answer.ensures.lines
-    (behind c.args.room c.lent-most.result c.unset_line-unset.result c.lent-most.ensures c.unset_line-unset.ensures)
+    (behind c.args.room c.min-most.result c.unset_line-unset.result
+    c.min-most.ensures c.unset_line-unset.ensures)

@@ -1,10 +1,7 @@
 -- `writes::read_plan` meets its contract: every number that was passed is what its octets write.
-use Rattle.std.proofs.Common.{length, ◌-◌, ◌≡◌, ℕ, ◌*◌, ◌<◌, get_or}
+use Rattle.std.proofs.Common.{◌≡◌, ℕ, ◌*◌, ◌<◌, get_or}
 use Rattle.octets.specs.BigEndian.{be_at}
 use Rattle.replaying.proofs.writes.read_plan.Given as goal
 
 abbrev pub invariant-loop-i : goal.invariant-loop-i
 invariant-loop-i l = (k : ℕ) → k < l.i → get_or l.plan k 0 ≡ be_at l.rows (k * 8) 8
-
-abbrev pub decreases-loop-i : goal.decreases-loop-i
-decreases-loop-i l = length l.initial.plan - l.i

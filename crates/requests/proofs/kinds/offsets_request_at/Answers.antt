@@ -16,5 +16,5 @@ returns-in_default c =
 pub returns : goal.returns
 returns c =
     offsets_read _ _ _ _
-    (sym c.in-Named.is ∙ c.reading_of.ensures)
+    (sym c.in-Some.is ∙ c.reading_of.ensures)
     c.two_octets.ensures (omega arith)

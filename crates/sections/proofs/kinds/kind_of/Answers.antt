@@ -8,39 +8,39 @@ use Rattle.sections.proofs.kinds.kind_of.Goals as goal
 
 pub returns-in-0 : goal.returns-in-0
 unfolding kind_of kinds
-returns-in-0 c = simp (c.kind.ensures, c.in-0.is)
+returns-in-0 c = simp (c.in-0.is)
 
 pub returns-in-1 : goal.returns-in-1
 unfolding kind_of kinds
-returns-in-1 c = simp (c.kind-in-1.ensures, c.in-1.is)
+returns-in-1 c = simp (c.in-1.is)
 
 pub returns-in-2 : goal.returns-in-2
 unfolding kind_of kinds
-returns-in-2 c = simp (c.kind-in-2.ensures, c.in-2.is)
+returns-in-2 c = simp (c.in-2.is)
 
 pub returns-in-3 : goal.returns-in-3
 unfolding kind_of kinds
-returns-in-3 c = simp (c.kind-in-3.ensures, c.in-3.is)
+returns-in-3 c = simp (c.in-3.is)
 
 pub returns-in-4 : goal.returns-in-4
 unfolding kind_of kinds
-returns-in-4 c = simp (c.kind-in-4.ensures, c.in-4.is)
+returns-in-4 c = simp (c.in-4.is)
 
 pub returns-in-5 : goal.returns-in-5
 unfolding kind_of kinds
-returns-in-5 c = simp (c.kind-in-5.ensures, c.in-5.is)
+returns-in-5 c = simp (c.in-5.is)
 
 pub returns-in-6 : goal.returns-in-6
 unfolding kind_of kinds
-returns-in-6 c = simp (c.kind-in-6.ensures, c.in-6.is)
+returns-in-6 c = simp (c.in-6.is)
 
 pub returns-in-7 : goal.returns-in-7
 unfolding kind_of kinds
-returns-in-7 c = simp (c.kind-in-7.ensures, c.in-7.is)
+returns-in-7 c = simp (c.in-7.is)
 
 pub returns-in-8 : goal.returns-in-8
 unfolding kind_of kinds
-returns-in-8 c = simp (c.kind-in-8.ensures, c.in-8.is)
+returns-in-8 c = simp (c.in-8.is)
 
 pub returns-in_default : goal.returns-in_default
 unfolding kind_of kinds

@@ -9,8 +9,8 @@ returns-in_default c = rw (sym c.kind_of.ensures ∙ c.in_default.is)
 
 pub returns-in-LeastPayload : goal.returns-in-LeastPayload
 unfolding least_payload_of
-returns-in-LeastPayload c = rw (sym c.kind_of.ensures ∙ c.in-Known.is, c.in-LeastPayload.is)
+returns-in-LeastPayload c = rw (sym c.kind_of.ensures ∙ c.in-Some.is, c.in-LeastPayload.is)
 
 pub returns-in-WholeSize : goal.returns-in-WholeSize
 unfolding least_payload_of
-returns-in-WholeSize c = rw (sym c.kind_of.ensures ∙ c.in-Known.is, c.in-WholeSize.is)
+returns-in-WholeSize c = rw (sym c.kind_of.ensures ∙ c.in-Some.is, c.in-WholeSize.is)

@@ -3,10 +3,10 @@ use mathlib.Core.Path.{sym, ◌∙◌}
 use Rattle.sections.specs.Kinds.{values_of}
 use Rattle.sections.proofs.kinds.values_of.Goals as goal
 
-pub returns-in_default : goal.returns-in_default
+pub returns-in-Some : goal.returns-in-Some
 unfolding values_of
-returns-in_default c = rw (sym c.kind_of.ensures ∙ c.in_default.is)
+returns-in-Some c = rw (sym c.kind_of.ensures ∙ c.in-Some.is)
 
-pub returns : goal.returns
+pub returns-in-None : goal.returns-in-None
 unfolding values_of
-returns c = rw (sym c.kind_of.ensures ∙ c.in-Known.is)
+returns-in-None c = rw (sym c.kind_of.ensures ∙ c.in-None.is)

@@ -1,4 +1,5 @@
 -- `row_only` meets its contract: by what is seen, then by the two tests.
+use Rattle.std.specs.Prelude.{None}
 use mathlib.Core.Path.{◌≡◌, refl, sym, ◌∙◌}
 use borrow.Author.Tests.{le-leb, lt-leb}
 use Rattle.framing.specs.declared.read.Section.{Section}
@@ -7,12 +8,11 @@ use Rattle.reading.specs.declared.Reading.{Reading}
 use Rattle.reading.specs.declared.Seen.{Seen}
 use Rattle.reading.specs.declared.Seen.TheVariants.{Passes, Closes, Misplaced, NoGrid, Clean, InputOver, Unreadable}
 use Rattle.walk.specs.Turns.{row_only}
-use Rattle.walk.specs.declared.lines.Only.TheVariants.{More}
 use Rattle.standing.specs.declared.Standing.{Standing}
 use Rattle.walk.proofs.lines.row_only.Goals as goal
 
 -- what is seen is another than a section that passes
-elsewhere : (room : Room) (at : Standing) (v : Seen) → ((s : Section) (next : Reading) → v ≡ Passes s next → ⊥) → More ≡ row_only room at v
+elsewhere : (room : Room) (at : Standing) (v : Seen) → ((s : Section) (next : Reading) → v ≡ Passes s next → ⊥) → None ≡ row_only room at v
 unfolding row_only
 elsewhere room at (Passes s next) other = absurd (other s next refl)
 elsewhere room at (Closes s next) other = refl

@@ -5,7 +5,8 @@ use Rattle.walk.proofs.Steps.{Stepping}
 use Rattle.walk.proofs.lines.step.Given as goal
 
 abbrev pub invariant-loop-section : goal.invariant-loop-section
-invariant-loop-section l = Stepping l.file l.initial.rows l.lines l.room l.before l.at l.span l.local l.places l.rows
+invariant-loop-section l =
+    Stepping l.file l.initial.rows l.lines l.room l.fn.before l.at l.span l.local l.places l.rows
 
 abbrev pub decreases-loop-section : goal.decreases-loop-section
 decreases-loop-section l = length l.file - l.at.reading.cursor.at.0

@@ -2,4 +2,5 @@
 use Rattle.walk.proofs.tally.told.Goals as goal
 
 pub returns : goal.returns
-returns c = simp (c.line_of-t.ensures, c.one_more-2.ensures, c.with_submessage-t.ensures, c.one_more.ensures)
+returns c =
+    simp (c.line_of.ensures, c.one_more-2.ensures, c.with_submessage-t.ensures, c.one_more.ensures)

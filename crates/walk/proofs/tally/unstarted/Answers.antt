@@ -2,4 +2,4 @@
 use Rattle.walk.proofs.tally.unstarted.Goals as goal
 
 pub returns : goal.returns
-returns c = simp (c.line_of.ensures, c.unlisted.ensures, c.start.ensures, c.opened-force.ensures)
+returns c = simp (c.unlisted.ensures, c.opened.ensures, c.start.ensures)

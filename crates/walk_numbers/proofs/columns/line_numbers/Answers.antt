@@ -4,4 +4,4 @@ use Rattle.walk_numbers.proofs.columns.line_numbers.Goals as goal
 
 pub returns : goal.returns
 unfolding line_numbers
-returns c = rw (c.end_place.ensures, c.local_place.ensures, c.is_closed.ensures, c.has_local.ensures)
+returns c = rw (c.place_or_0-2.ensures, c.place_or_0.ensures, c.is_there-2.ensures, c.is_there.ensures)

@@ -43,7 +43,7 @@ passing c =
       | then-completes+else-room-at w ↦
           N.passing_behind _ _ _ c.loop-section.invariant sees (sym c.completes.ensures ∙ w.if-completes.true)
           (omega (arith, w.if-room-at.false, ap (λ (room : Room). room.lines) c.room_in-room.ensures)) (w.at-is ∙ w.told_line-at.ensures)
-          (w.lines-is ∙ w.put_line.ensures ∙ rw w.open_line.ensures)
+          (w.lines-is ∙ w.put_line.ensures ∙ rw w.line_in_hand.ensures)
       | else-completes w ↦
           N.passing_on _ _ _ c.loop-section.invariant sees (sym c.completes.ensures ∙ w.if-completes.false) w.at-is w.lines-is
     ]
@@ -161,12 +161,12 @@ loop-section-preserved c =
     (N.closed _ _ _ c.loop-section.invariant (sym c.glance-seen.ensures ∙ c.in-Closes.is)
     (omega (arith, c.if-room-at-3.false, ap (λ (room : Room). room.rows) c.room_in-room.ensures))
     (omega (arith, c.if-room-at-4.false, ap (λ (room : Room). room.lines) c.room_in-room.ensures))
-    c.closed_both-at.ensures c.put_row-in-Closes.ensures (c.put_line-in-Closes.ensures ∙ rw c.closed_line.ensures))
+    c.closed_both-at.ensures c.put_row-in-Closes.ensures (c.put_line-in-Closes.ensures ∙ rw c.line_in_hand-in-Closes.ensures))
 
 pub returns-in-Misplaced : goal.returns-in-Misplaced
 returns-in-Misplaced c =
     let whole = N.misplaced _ _ _ c.loop-section.invariant (sym c.glance-seen.ensures ∙ c.in-Misplaced.is) c.misplaced.ensures.answer
-    (c.misplaced.ensures.lines ∙ rw c.open_line-line.ensures) in
+    (c.misplaced.ensures.lines ∙ rw c.line_in_hand-line.ensures) in
     record { answer = whole.0; rows = whole.1.0; lines = whole.1.1 }
 
 pub returns-in-NoGrid : goal.returns-in-NoGrid

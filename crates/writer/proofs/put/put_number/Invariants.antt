@@ -14,6 +14,3 @@ pub record Kept (dest : List ℕ) (at width number : ℕ) (d : List ℕ) (left v
 
 abbrev pub invariant-loop-left : goal.invariant-loop-left
 invariant-loop-left l = Kept l.initial.dest l.at l.width l.number l.dest l.left l.value
-
-abbrev pub decreases-loop-left : goal.decreases-loop-left
-decreases-loop-left l = l.left

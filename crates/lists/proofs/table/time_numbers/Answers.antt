@@ -1,0 +1,11 @@
+-- `time_numbers` meets its contract: there is a value, or there is none.
+use Rattle.lists.specs.Lists.{time_numbers}
+use Rattle.lists.proofs.table.time_numbers.Goals as goal
+
+pub returns-in-Some : goal.returns-in-Some
+unfolding time_numbers
+returns-in-Some c = rw c.in-Some.is
+
+pub returns-in-None : goal.returns-in-None
+unfolding time_numbers
+returns-in-None c = rw c.in-None.is
