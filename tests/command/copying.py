@@ -648,8 +648,9 @@ def kills(at, times):
         dest.unlink(missing_ok=True)
         if force:
             write(dest, OLD)
-        # Half of them late, where the copy is put in place.
-        moment = random.uniform(0 if number % 4 < 2 else 0.8 * lasts, 1.1 * lasts)
+        # Half of them late, where the copy is put in place; sooner than it lasts, since one without
+        # --force has none to put aside.
+        moment = random.uniform(0 if number % 4 < 2 else 0.5 * lasts, lasts)
         status = killed_at(moment, number % 3 == 0,
                            "copy", *(["--force"] if force else []), file, dest)
         ended += status == 0
