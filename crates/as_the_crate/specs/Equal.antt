@@ -1,7 +1,8 @@
 -- Reading equals the Rust, on every file of at most 2^40 octets on which the crate does not
 -- overflow (Overflow.antt says when it does). Each statement is an equation between what a function
 -- of this library is defined to give and what the crate's transcription tells.
-use Rattle.std.specs.Prelude.{ℕ, ◌*◌, ◌≤◌, ◌<◌, ◌≡◌, List, map, eqb, length, get_or, Option, Some, None}
+use Rattle.std.specs.Prelude.{ℕ, ◌*◌, ◌≤◌, ◌<◌, ◌≡◌, List, map, eqb, length, get_or, Option, Some}
+use Rattle.std.specs.Prelude.{None}
 use Rattle.octets.specs.Words.{pick, Not}
 use Rattle.index.specs.Numbers.{end_of}
 use Rattle.index.specs.Bounds.{most_octets, unlimited}

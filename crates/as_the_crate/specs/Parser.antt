@@ -5,7 +5,8 @@
 -- `I` and `advance` are the Rust's `I: Iterator<Item = Result<SectionInfo, ParseError>>` and its
 -- `next`. After None or an error nothing is read any more, so these tell no state. Counts of
 -- sections, messages and submessages are not tested for overflow: no file has 2^64 of them.
-use Rattle.std.specs.Prelude.{ℕ, zero, suc, ◌+◌, Bool, true, false, List, [], ◌∷◌, ◌++◌, eqb, Option, Some, None}
+use Rattle.std.specs.Prelude.{ℕ, zero, suc, ◌+◌, Bool, true, false, List, [], ◌∷◌, ◌++◌, eqb}
+use Rattle.std.specs.Prelude.{Option, Some, None}
 use Rattle.octets.specs.Words.{pick}
 use Rattle.as_the_crate.specs.Std.{
   ParseError,

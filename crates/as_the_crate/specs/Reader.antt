@@ -2,7 +2,8 @@
 -- makes. The file is a list of octets, the reader an in-memory cursor, which is a place in it: a
 -- function that moves the cursor answers the new place last. Sums of a place in the file and a u32
 -- are not tested for overflow.
-use Rattle.std.specs.Prelude.{ℕ, zero, suc, ◌+◌, ◌-◌, not, List, ltb, eqb, length, get_or, Option, Some, None}
+use Rattle.std.specs.Prelude.{ℕ, zero, suc, ◌+◌, ◌-◌, not, List, ltb, eqb, length, get_or, Option}
+use Rattle.std.specs.Prelude.{Some, None}
 use Rattle.octets.specs.Words.{pick}
 use Rattle.octets.specs.BigEndian.{be_at}
 use Rattle.framing.specs.Search.{says}

@@ -1,6 +1,7 @@
 -- What the crate grib 0.20.2 tells of a file, and the same in this library's words: a section, a
 -- submessage's line, how many messages are closed, an outcome.
-use Rattle.std.specs.Prelude.{ℕ, ◌+◌, ◌*◌, List, [], ◌∷◌, map, eqb, length, get_or, Option, Some, None, Ok, Err}
+use Rattle.std.specs.Prelude.{ℕ, ◌+◌, ◌*◌, List, [], ◌∷◌, map, eqb, length, get_or, Option, Some}
+use Rattle.std.specs.Prelude.{None, Ok, Err}
 use Rattle.octets.specs.Words.{pick}
 use Rattle.octets.specs.BigEndian.{be_at}
 use Rattle.framing.specs.declared.read.Section.{Section}

@@ -1,5 +1,6 @@
 -- What a call of the pull reader hands out, in document 01's numbers ("Order", "Refusal numbers").
-use Rattle.std.specs.Prelude.{ℕ, ◌≤◌, ◌<◌, ◌≡◌, List, length, get_or, Option, Some, None, Result, Ok, Err}
+use Rattle.std.specs.Prelude.{ℕ, ◌≤◌, ◌<◌, ◌≡◌, List, length, get_or, Option, Some, None, Result}
+use Rattle.std.specs.Prelude.{Ok, Err}
 use Rattle.octets.specs.Words.{Not}
 use Rattle.framing.specs.declared.read.Section.{Section}
 use Rattle.index.specs.Lines.{unlisted}
@@ -8,7 +9,6 @@ use Rattle.index.specs.Walk.{walked}
 use Rattle.index.specs.Numbers.{end_of}
 use Rattle.index.specs.declared.numbers.End.{End}
 use Rattle.pull.specs.Calls.{pull_at, after_calls}
-use Rattle.index.specs.Outcome.{refused_there}
 use Rattle.index.specs.declared.listed.Listed.{Listed}
 use Rattle.index.specs.declared.refusal.Refused.{Refused}
 

@@ -228,7 +228,8 @@ pub record PublicFunctions (M : Type 1) : Type 2 where
       (λ (force, (end, _)). line_of force end)
   pub index_unlisted : Gives M 0 [] (λ _. index.unlisted.clauses) index_code.unlisted.Symbol.code
       index.unlisted.Key.name (λ _. unlisted)
-  pub index_end_of : Gives M 0 (value (results.the_row unit refused_type.the_row) ∷ []) (λ _. index.end_of.clauses)
+  pub index_end_of : Gives M 0 (value (results.the_row unit refused_type.the_row) ∷ [])
+      (λ _. index.end_of.clauses)
       index_code.end_of.Symbol.code index.end_of.Key.name (λ (outcome, _). end_of outcome)
   pub index_stored : Gives M 0 (value u64 ∷ []) (λ _. index.stored.clauses)
       index_code.stored.Symbol.code index.stored.Key.name (λ (octets, _). stored octets)
@@ -290,7 +291,8 @@ pub record PublicFunctions (M : Type 1) : Type 2 where
   pub pull_new_holds : SeenIs M pull.new.ended (λ _. pull.new.clauses)
       (λ κs (file, _). file) (λ κs reader _. reader.file) (λ file. file)
   pub pull-Reader_next : Promised M pull.Reader.next.ended (λ _. pull.Reader.next.clauses)
-      pull_code.Reader.next.Symbol.code pull.Reader.next.Key.name {O = (Option (Result Listed Refused)) × List ℕ × Progress}
+      pull_code.Reader.next.Symbol.code pull.Reader.next.Key.name
+      {O = Option (Result Listed Refused) × List ℕ × Progress}
       (λ κs (reader, _). (reader.now.file.now, reader.now.progress))
       (λ (file, progress). MayPassAll {n = 1} (lent 0 tt u8 ∷ value Progress.the_row ∷ [])
       (file, (progress, tt)))
@@ -303,7 +305,8 @@ pub record PublicFunctions (M : Type 1) : Type 2 where
       (λ _. publish.publish.clauses) publish_code.publish.Symbol.code publish.publish.Key.name
       (λ (file, (dest, _)). let copied = copy_of licensed file dest in
       (copied.answer, copied.dest))
-  pub publish_copy_end : Gives M 0 (value (results.the_row usize CopyRefusal.the_row) ∷ []) (λ _. publish.copy_end.clauses)
+  pub publish_copy_end : Gives M 0 (value (results.the_row usize CopyRefusal.the_row) ∷ [])
+      (λ _. publish.copy_end.clauses)
       publish_code.copy_end.Symbol.code publish.copy_end.Key.name (λ (answer, _). copy_end answer)
   -- writer: the answer and the whole destination
   pub writer_write : Gives M 3 (value u8 ∷ value u8 ∷ value u8 ∷
@@ -312,7 +315,8 @@ pub record PublicFunctions (M : Type 1) : Type 2 where
       (λ (discipline, (reserved₁, (reserved₂, (plan, (store, (dest, _)))))).
       let wrote = write_of discipline reserved₁ reserved₂ plan store dest in
       (wrote.answer, wrote.dest))
-  pub writer_write_end : Gives M 0 (value (results.the_row u64 WriteRefusal.the_row) ∷ []) (λ _. writer.write_end.clauses)
+  pub writer_write_end : Gives M 0 (value (results.the_row u64 WriteRefusal.the_row) ∷ [])
+      (λ _. writer.write_end.clauses)
       writer_code.write_end.Symbol.code writer.write_end.Key.name (λ (answer, _). write_end answer)
   -- entries, inventory, lists: an entry's line; the answer and the whole buffer; the answer and the
   -- whole table
@@ -322,14 +326,16 @@ pub record PublicFunctions (M : Type 1) : Type 2 where
       (λ _. inventory.inventory.clauses) inventory_code.inventory.Symbol.code
       inventory.inventory.Key.name
       (λ (file, (text, _)). let wrote = inventory_of file text in (wrote.answer, wrote.text))
-  pub inventory_inventory_end : Gives M 0 (value (results.the_row usize InventoryRefusal.the_row) ∷ [])
+  pub inventory_inventory_end : Gives M 0
+      (value (results.the_row usize InventoryRefusal.the_row) ∷ [])
       (λ _. inventory.inventory_end.clauses) inventory_code.inventory_end.Symbol.code
       inventory.inventory_end.Key.name (λ (answer, _). inventory_end answer)
   pub lists_read_list : Gives M 2 (lent 0 tt u8 ∷ lent_mut 1 tt u64 ∷ [])
       (λ _. lists.read_list.clauses) lists_code.read_list.Symbol.code lists.read_list.Key.name
       (λ (text, (table, _)). let stored = read_of text table in
       (stored.answer, stored.table))
-  pub lists_list_end : Gives M 0 (value (results.the_row unit ListRefusal.the_row) ∷ []) (λ _. lists.list_end.clauses)
+  pub lists_list_end : Gives M 0 (value (results.the_row unit ListRefusal.the_row) ∷ [])
+      (λ _. lists.list_end.clauses)
       lists_code.list_end.Symbol.code lists.list_end.Key.name (λ (end, _). list_end end)
   -- requests: the request at a place of an input
   pub requests_request_at : Gives M 1 (lent 0 tt u8 ∷ value usize ∷ [])
