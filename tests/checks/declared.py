@@ -9,9 +9,12 @@ from edits import ROOT
 # A function, type or constant of code.
 ITEM = re.compile(
     r'^(?P<indent> *)(?P<pub>pub )?(?:pub\(crate\) )?(?:extern "C" )?'
-    r"(?P<kind>fn|struct|enum|const|impl)(?:<[^>]*>)? (?:\w+(?:<.*>)? for )?(?P<name>\w+)",
+    r"(?P<kind>fn|struct|enum|const|impl)(?:<[^>]*>)? (?:(?P<trait>\w+)(?:<.*>)? for )?"
+    r"(?P<name>\w+)",
     re.M,
 )
+# A type or a trait, and whether other crates may name it.
+NAMED = re.compile(r"^(pub )?(?:pub\(crate\) )?(?:struct|enum|trait) (\w+)", re.M)
 # A definition or a statement of a specification.
 DEFINITION = re.compile(
     r"^(?:(?:pub|abbrev|unfoldable) )*(?:(?:data|record) )?(?P<name>[^\s:]+)(?: .*)? :", re.M
@@ -43,18 +46,29 @@ def text_of(crate, file):
     return (ROOT / "crates" / crate / file).read_text()
 
 
-def items_of_code(file, source):
-    """Functions, types and constants; those of an `impl` with their type's name before them."""
-    owner = ""
+@lru_cache(maxsize=None)
+def hidden_in(crate):
+    """The types and traits that a crate keeps to itself."""
+    files = sorted((ROOT / "crates" / crate / "src").glob("*.rt"))
+    named = [found for file in files for found in NAMED.findall(file.read_text())]
+    return {name for _, name in named} - {name for public, name in named if public}
+
+
+def items_of_code(crate, file, source):
+    """Functions, types and constants; those of an `impl` with their type's name before them. A
+    method of a trait is as public as its type and its trait."""
+    owner, of_trait = "", False
     for found in ITEM.finditer(source):
         if found["kind"] == "impl":
             owner = found["name"]
+            of_trait = bool(found["trait"]) and not {owner, found["trait"]} & hidden_in(crate)
         name = f"{owner}::{found['name']}" if found["indent"] else found["name"]
+        public = bool(found["pub"] or found["indent"] and of_trait)
         words = words_above(source, found.start())
-        yield Declared(file, found.start(), name, found["kind"], bool(found["pub"]), words)
+        yield Declared(file, found.start(), name, found["kind"], public, words)
 
 
-def definitions(file, source):
+def definitions(crate, file, source):
     for found in DEFINITION.finditer(source):
         words = words_above(source, found.start())
         yield Declared(file, found.start(), found["name"], "definition", False, words)
@@ -64,7 +78,7 @@ def definitions(file, source):
 def declared_in(crate, file):
     """Everything that a file declares, in its order."""
     read = items_of_code if file.endswith(".rt") else definitions
-    return list(read(file, text_of(crate, file)))
+    return list(read(crate, file, text_of(crate, file)))
 
 
 def files_of(crate):

@@ -23,6 +23,13 @@ use Rattle.buttresk.proofs.fields.buttresk_representation.Symbol as code_of_butt
 use Rattle.buttresk.proofs.walking.buttresk_walk.Symbol as code_of_buttresk_walk
 use Rattle.buttresk.proofs.product.buttresk_when_and_where.Symbol as code_of_buttresk_when_and_where
 use Rattle.buttresk.proofs.storing.buttresk_write.Symbol as code_of_buttresk_write
+use Rattle.buttresk.proofs.product.OctetFieldFromOptionU8.from.Symbol as code_of_octetfield_from
+use Rattle.buttresk.proofs.product.TimeFieldFromOptionForecastTime.from.Symbol as code_of_timefield_from
+use Rattle.buttresk.proofs.product.SurfaceFromFixedSurface.from.Symbol as code_of_surface_from
+use Rattle.buttresk.proofs.product.SurfacesFieldFromOptionTuple2FixedSurfaceFixedSurface.from.Symbol as code_of_surfacesfield_from
+use Rattle.buttresk.proofs.product.WhenWhereFieldsFromWhenWhere.from.Symbol as code_of_whenwherefields_from
+use Rattle.buttresk.proofs.listing.ReadAnswerFromListAnswer.from.Symbol as code_of_readanswer_from
+use Rattle.buttresk.proofs.storing.StoreAnswerFromStoreEnd.from.Symbol as code_of_storeanswer_from
 
 unfoldable pub table : Tree
 table = link.table
@@ -81,3 +88,31 @@ linked_buttresk_when_and_where W stands = link.«linked-buttresk::product::buttr
 pub linked_buttresk_write : (W : World) → Stands W → HasT (in_world W) true code_of_buttresk_write.code
 unfolding table
 linked_buttresk_write W stands = link.«linked-buttresk::storing::buttresk_write» W stands.0 (below W stands)
+
+pub linked_octetfield_from : (W : World) → Stands W → HasT (in_world W) true code_of_octetfield_from.code
+unfolding table
+linked_octetfield_from W stands = link.«linked-buttresk::product::OctetFieldFromOptionU8::from» W stands.0 (below W stands)
+
+pub linked_timefield_from : (W : World) → Stands W → HasT (in_world W) true code_of_timefield_from.code
+unfolding table
+linked_timefield_from W stands = link.«linked-buttresk::product::TimeFieldFromOptionForecastTime::from» W stands.0 (below W stands)
+
+pub linked_surface_from : (W : World) → Stands W → HasT (in_world W) true code_of_surface_from.code
+unfolding table
+linked_surface_from W stands = link.«linked-buttresk::product::SurfaceFromFixedSurface::from» W stands.0 (below W stands)
+
+pub linked_surfacesfield_from : (W : World) → Stands W → HasT (in_world W) true code_of_surfacesfield_from.code
+unfolding table
+linked_surfacesfield_from W stands = link.«linked-buttresk::product::SurfacesFieldFromOptionTuple2FixedSurfaceFixedSurface::from» W stands.0 (below W stands)
+
+pub linked_whenwherefields_from : (W : World) → Stands W → HasT (in_world W) true code_of_whenwherefields_from.code
+unfolding table
+linked_whenwherefields_from W stands = link.«linked-buttresk::product::WhenWhereFieldsFromWhenWhere::from» W stands.0 (below W stands)
+
+pub linked_readanswer_from : (W : World) → Stands W → HasT (in_world W) true code_of_readanswer_from.code
+unfolding table
+linked_readanswer_from W stands = link.«linked-buttresk::listing::ReadAnswerFromListAnswer::from» W stands.0 (below W stands)
+
+pub linked_storeanswer_from : (W : World) → Stands W → HasT (in_world W) true code_of_storeanswer_from.code
+unfolding table
+linked_storeanswer_from W stands = link.«linked-buttresk::storing::StoreAnswerFromStoreEnd::from» W stands.0 (below W stands)

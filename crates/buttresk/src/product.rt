@@ -66,6 +66,7 @@ pub struct WhenWhereFields {
 }
 
 impl From<Option<u8>> for OctetField {
+    // An octet, or `known` 0.
     fn from(maybe: Option<u8>) -> OctetField
         ensures { result ≡ octet_field maybe }
     {
@@ -77,6 +78,7 @@ impl From<Option<u8>> for OctetField {
 }
 
 impl From<Option<ForecastTime>> for TimeField {
+    // A time and its unit, or `known` 0.
     fn from(maybe: Option<ForecastTime>) -> TimeField
         ensures { result ≡ time_field maybe }
     {
@@ -96,6 +98,7 @@ impl From<Option<ForecastTime>> for TimeField {
 }
 
 impl From<FixedSurface> for Surface {
+    // The three numbers of a surface.
     fn from(surface: FixedSurface) -> Surface
         ensures { result ≡ surface_numbers surface }
     {
@@ -108,6 +111,7 @@ impl From<FixedSurface> for Surface {
 }
 
 impl From<Option<(FixedSurface, FixedSurface)>> for SurfacesField {
+    // Both surfaces, or `known` 0.
     fn from(maybe: Option<(FixedSurface, FixedSurface)>) -> SurfacesField
         ensures { result ≡ surfaces_field maybe }
     {

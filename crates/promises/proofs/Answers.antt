@@ -1,7 +1,8 @@
 -- Each public function gives its definition (specs/Public.antt): its contract says so, and it meets
 -- its contract.
-use denote.Struct.Laws.{unit-plain, u64-plain, usize-plain}
-use Rattle.std.specs.Borrow.{unit, u64, usize}
+use denote.Struct.Laws.{unit-plain, u8-plain, u64-plain, usize-plain}
+use denote.Struct.Tuple.{Tuple, tuple_plain}
+use Rattle.std.specs.Borrow.{unit, u8, u64, usize}
 use Rattle.std.specs.contracts.option.Option as options
 use Rattle.std.proofs.option.Option.TheLaws as OptionLaws
 use Rattle.std.specs.contracts.result.Result as results
@@ -52,8 +53,22 @@ use Rattle.inventory.proofs as inventory
 use Rattle.lists.proofs as lists
 use Rattle.requests.proofs as requests
 use Rattle.buttresk.proofs as buttresk
+use Rattle.buttresk.proofs.storing.StoreAnswerFromStoreEnd as StoreAnswer
+use Rattle.buttresk.proofs.listing.ReadAnswerFromListAnswer as ReadAnswer
+use Rattle.buttresk.proofs.product.OctetFieldFromOptionU8 as OctetField
+use Rattle.buttresk.proofs.product.TimeFieldFromOptionForecastTime as TimeField
+use Rattle.buttresk.proofs.product.SurfaceFromFixedSurface as Surface
+use Rattle.buttresk.proofs.product.SurfacesFieldFromOptionTuple2FixedSurfaceFixedSurface
+    as SurfacesField
+use Rattle.buttresk.proofs.product.WhenWhereFieldsFromWhenWhere as WhenWhereFields
 use Rattle.products.specs.contracts.templates.TemplateReading as TemplateReading
 use Rattle.products.proofs.templates.TemplateReading.TheLaws as TemplateReadingLaws
+use Rattle.products.specs.contracts.ForecastTime as ForecastTime
+use Rattle.products.proofs.ForecastTime.TheLaws as ForecastTimeLaws
+use Rattle.products.specs.contracts.FixedSurface as FixedSurface
+use Rattle.products.proofs.FixedSurface.TheLaws as FixedSurfaceLaws
+use Rattle.products.specs.contracts.WhenWhere as WhenWhere
+use Rattle.products.proofs.WhenWhere.TheLaws as WhenWhereLaws
 use Rattle.framing.specs.contracts.read.Cursor as Cursor
 use Rattle.framing.proofs.read.Cursor.TheLaws as CursorLaws
 use Rattle.framing.specs.contracts.read.Section as Section
@@ -68,12 +83,16 @@ use Rattle.index.specs.contracts.line.Span as Span
 use Rattle.index.proofs.line.Span.TheLaws as SpanLaws
 use Rattle.index.specs.contracts.line.Line as Line
 use Rattle.index.proofs.line.Line.TheLaws as LineLaws
+use Rattle.index.specs.contracts.numbers.StoreEnd as StoreEnd
+use Rattle.index.proofs.numbers.StoreEnd.TheLaws as StoreEndLaws
 use Rattle.reading.specs.contracts.Reading as Reading
 use Rattle.reading.proofs.Reading.TheLaws as ReadingLaws
 use Rattle.standing.specs.contracts.Standing as Standing
 use Rattle.standing.proofs.Standing.TheLaws as StandingLaws
 use Rattle.pull.specs.contracts.Progress as Progress
 use Rattle.pull.proofs.Progress.TheLaws as ProgressLaws
+use Rattle.lists.specs.contracts.ListAnswer as ListAnswer
+use Rattle.lists.proofs.ListAnswer.TheLaws as ListAnswerLaws
 use Rattle.entries.specs.contracts.Entry as Entry
 use Rattle.entries.proofs.Entry.TheLaws as EntryLaws
 use Rattle.framing.proofs.NextStart.{next_start_is}
@@ -173,6 +192,37 @@ plain-list_end : Plain (results.the_row unit ListRefusal.the_row)
 plain-list_end = record {
   pure = λ d. ResultLaws.the_field_plain unit ListRefusal.the_row unit-plain ListRefusalLaws.the_row_plain ((results.the_type unit ListRefusal.the_row).to d);
 }
+
+plain-StoreEnd : Plain StoreEnd.the_row
+plain-StoreEnd = record { pure = λ d. StoreEndLaws.the_field_plain (StoreEnd.the_type.to d) }
+
+plain-ListAnswer : Plain ListAnswer.the_row
+plain-ListAnswer = record { pure = λ d. ListAnswerLaws.the_field_plain (ListAnswer.the_type.to d) }
+
+plain-octet_or_none : Plain (options.the_row u8)
+plain-octet_or_none =
+    record { pure = λ d. OptionLaws.the_field_plain u8 u8-plain ((options.the_type u8).to d) }
+
+plain-time_or_none : Plain (options.the_row ForecastTime.the_row)
+plain-time_or_none = record {
+  pure = λ d. OptionLaws.the_field_plain ForecastTime.the_row ForecastTimeLaws.the_row_plain ((options.the_type ForecastTime.the_row).to d);
+}
+
+plain-FixedSurface : Plain FixedSurface.the_row
+plain-FixedSurface =
+    record { pure = λ d. FixedSurfaceLaws.the_field_plain (FixedSurface.the_type.to d) }
+
+plain-surfaces_or_none :
+    Plain (options.the_row (Tuple (FixedSurface.the_row ∷ FixedSurface.the_row ∷ [])))
+plain-surfaces_or_none =
+    let both = FixedSurface.the_row ∷ FixedSurface.the_row ∷ [] in
+    let plain = FixedSurfaceLaws.the_row_plain in
+    record {
+      pure = λ d. OptionLaws.the_field_plain (Tuple both) (tuple_plain both (plain, (plain, tt))) ((options.the_type (Tuple both)).to d);
+    }
+
+plain-WhenWhere : Plain WhenWhere.the_row
+plain-WhenWhere = record { pure = λ d. WhenWhereLaws.the_field_plain (WhenWhere.the_type.to d) }
 
 line : Element Line.the_row
 line = record {
@@ -392,6 +442,20 @@ module _ {M : Type 1} where
     buttresk_bit_map = by 1 (to_read 0 tt (read w8) ∷ []) (λ n. refl)
         (λ 𝓤 𝓛 content run κs a. tt) buttresk.buttresk_bit_map.Met.met
         (λ n r e. id⊢ n.memory _);
+    StoreAnswer-from = by 0 (by_value plain-StoreEnd ∷ []) (λ n. refl)
+        (λ 𝓤 𝓛 content run κs a. tt) StoreAnswer.from.Met.met (λ n r e. id⊢ n.memory _);
+    ReadAnswer-from = by 0 (by_value plain-ListAnswer ∷ []) (λ n. refl)
+        (λ 𝓤 𝓛 content run κs a. tt) ReadAnswer.from.Met.met (λ n r e. id⊢ n.memory _);
+    OctetField-from = by 0 (by_value plain-octet_or_none ∷ []) (λ n. refl)
+        (λ 𝓤 𝓛 content run κs a. tt) OctetField.from.Met.met (λ n r e. id⊢ n.memory _);
+    TimeField-from = by 0 (by_value plain-time_or_none ∷ []) (λ n. refl)
+        (λ 𝓤 𝓛 content run κs a. tt) TimeField.from.Met.met (λ n r e. id⊢ n.memory _);
+    Surface-from = by 0 (by_value plain-FixedSurface ∷ []) (λ n. refl)
+        (λ 𝓤 𝓛 content run κs a. tt) Surface.from.Met.met (λ n r e. id⊢ n.memory _);
+    SurfacesField-from = by 0 (by_value plain-surfaces_or_none ∷ []) (λ n. refl)
+        (λ 𝓤 𝓛 content run κs a. tt) SurfacesField.from.Met.met (λ n r e. id⊢ n.memory _);
+    WhenWhereFields-from = by 0 (by_value plain-WhenWhere ∷ []) (λ n. refl)
+        (λ 𝓤 𝓛 content run κs a. tt) WhenWhereFields.from.Met.met (λ n r e. id⊢ n.memory _);
   }
 
 pub each_gives_its_definition : EachGivesItsDefinition

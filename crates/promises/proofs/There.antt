@@ -185,5 +185,12 @@ code_is_there = (
     buttresk_when_and_where = has _ (buttresk.linked_buttresk_when_and_where world stands_buttresk);
     buttresk_representation = has _ (buttresk.linked_buttresk_representation world stands_buttresk);
     buttresk_bit_map = has _ (buttresk.linked_buttresk_bit_map world stands_buttresk);
+    StoreAnswer-from = has _ (buttresk.linked_storeanswer_from world stands_buttresk);
+    ReadAnswer-from = has _ (buttresk.linked_readanswer_from world stands_buttresk);
+    OctetField-from = has _ (buttresk.linked_octetfield_from world stands_buttresk);
+    TimeField-from = has _ (buttresk.linked_timefield_from world stands_buttresk);
+    Surface-from = has _ (buttresk.linked_surface_from world stands_buttresk);
+    SurfacesField-from = has _ (buttresk.linked_surfacesfield_from world stands_buttresk);
+    WhenWhereFields-from = has _ (buttresk.linked_whenwherefields_from world stands_buttresk);
   },
 )

@@ -7,6 +7,7 @@ use Rattle.std.specs.Prelude.{ℕ, List, [], ◌∷◌, Option, Result}
 use Rattle.std.specs.Borrow.{Array, u8, u16, u32, u64, usize, unit}
 use Rattle.std.specs.contracts.option.Option as options
 use Rattle.std.specs.contracts.result.Result as results
+use denote.Struct.Tuple.{Tuple}
 use prog.Routine.{Env}
 use prog.Wired.{Wired}
 use Rattle.octets.specs.contracts as octets
@@ -57,7 +58,26 @@ use Rattle.requests.specs.contracts as requests
 use Rattle.requests.proofs as requests_code
 use Rattle.buttresk.specs.contracts as buttresk
 use Rattle.buttresk.proofs as buttresk_code
+use Rattle.buttresk.specs.contracts.storing.StoreAnswerFromStoreEnd as StoreAnswer
+use Rattle.buttresk.proofs.storing.StoreAnswerFromStoreEnd as StoreAnswerCode
+use Rattle.buttresk.specs.contracts.listing.ReadAnswerFromListAnswer as ReadAnswer
+use Rattle.buttresk.proofs.listing.ReadAnswerFromListAnswer as ReadAnswerCode
+use Rattle.buttresk.specs.contracts.product.OctetFieldFromOptionU8 as OctetField
+use Rattle.buttresk.proofs.product.OctetFieldFromOptionU8 as OctetFieldCode
+use Rattle.buttresk.specs.contracts.product.TimeFieldFromOptionForecastTime as TimeField
+use Rattle.buttresk.proofs.product.TimeFieldFromOptionForecastTime as TimeFieldCode
+use Rattle.buttresk.specs.contracts.product.SurfaceFromFixedSurface as Surface
+use Rattle.buttresk.proofs.product.SurfaceFromFixedSurface as SurfaceCode
+use Rattle.buttresk.specs.contracts.product.SurfacesFieldFromOptionTuple2FixedSurfaceFixedSurface
+    as SurfacesField
+use Rattle.buttresk.proofs.product.SurfacesFieldFromOptionTuple2FixedSurfaceFixedSurface
+    as SurfacesFieldCode
+use Rattle.buttresk.specs.contracts.product.WhenWhereFieldsFromWhenWhere as WhenWhereFields
+use Rattle.buttresk.proofs.product.WhenWhereFieldsFromWhenWhere as WhenWhereFieldsCode
 use Rattle.products.specs.contracts.templates.TemplateReading as TemplateReading
+use Rattle.products.specs.contracts.ForecastTime as ForecastTime
+use Rattle.products.specs.contracts.FixedSurface as FixedSurface
+use Rattle.products.specs.contracts.WhenWhere as WhenWhere
 use Rattle.framing.specs.contracts.read.Cursor as Cursor
 use Rattle.framing.specs.contracts.read.Section as Section
 use Rattle.order.specs.contracts.Order as Order
@@ -66,6 +86,7 @@ use Rattle.index.specs.contracts.line.Force as Force
 use Rattle.index.specs.contracts.line.Span as Span
 use Rattle.index.specs.contracts.line.Line as Line
 use Rattle.index.specs.contracts.refusal.Refused as refused_type
+use Rattle.index.specs.contracts.numbers.StoreEnd as StoreEnd
 use Rattle.reading.specs.contracts.Reading as Reading
 use Rattle.standing.specs.contracts.Standing as Standing
 use Rattle.pull.specs.contracts.Progress as Progress
@@ -74,6 +95,7 @@ use Rattle.writer.specs.contracts.WriteRefusal as WriteRefusal
 use Rattle.entries.specs.contracts.Entry as Entry
 use Rattle.inventory.specs.contracts.InventoryRefusal as InventoryRefusal
 use Rattle.lists.specs.contracts.ListRefusal as ListRefusal
+use Rattle.lists.specs.contracts.ListAnswer as ListAnswer
 use Rattle.octets.specs.BigEndian.{be_at}
 use Rattle.octets.specs.Signed.{signed_of}
 use Rattle.sections.specs.Kinds.{least_payload_of, values_of}
@@ -116,7 +138,15 @@ use Rattle.buttresk.specs.Fields.{
   representation_fields,
   bit_map_fields,
 }
-use Rattle.buttresk.specs.Product.{product_fields, when_where_fields}
+use Rattle.buttresk.specs.Product.{
+  octet_field,
+  time_field,
+  surface_numbers,
+  surfaces_field,
+  when_where_numbers,
+  product_fields,
+  when_where_fields,
+}
 use Rattle.buttresk.specs.Stores.{five_of}
 use Rattle.buttresk.specs.Lists.{read_answer_of}
 use Rattle.promises.specs.Contract.{SeenIs, Promised}
@@ -395,6 +425,27 @@ pub record PublicFunctions (M : Type 1) : Type 2 where
   pub buttresk_bit_map : Gives M 1 (lent 0 tt u8 ∷ []) (λ _. buttresk.buttresk_bit_map.clauses)
       buttresk_code.buttresk_bit_map.Symbol.code buttresk.buttresk_bit_map.Key.name
       (λ (payload, _). bit_map_fields (bit_map_of payload))
+  -- and the structs of numbers that it answers, each made of what the library answers
+  pub StoreAnswer-from : Gives M 0 (value StoreEnd.the_row ∷ []) (λ _. StoreAnswer.from.clauses)
+      StoreAnswerCode.from.Symbol.code StoreAnswer.from.Key.name (λ (answer, _). five_of answer)
+  pub ReadAnswer-from : Gives M 0 (value ListAnswer.the_row ∷ []) (λ _. ReadAnswer.from.clauses)
+      ReadAnswerCode.from.Symbol.code ReadAnswer.from.Key.name
+      (λ (answer, _). read_answer_of answer)
+  pub OctetField-from : Gives M 0 (value (options.the_row u8) ∷ []) (λ _. OctetField.from.clauses)
+      OctetFieldCode.from.Symbol.code OctetField.from.Key.name (λ (maybe, _). octet_field maybe)
+  pub TimeField-from : Gives M 0 (value (options.the_row ForecastTime.the_row) ∷ [])
+      (λ _. TimeField.from.clauses) TimeFieldCode.from.Symbol.code TimeField.from.Key.name
+      (λ (maybe, _). time_field maybe)
+  pub Surface-from : Gives M 0 (value FixedSurface.the_row ∷ []) (λ _. Surface.from.clauses)
+      SurfaceCode.from.Symbol.code Surface.from.Key.name
+      (λ (surface, _). surface_numbers surface)
+  pub SurfacesField-from : Gives M 0
+      (value (options.the_row (Tuple (FixedSurface.the_row ∷ FixedSurface.the_row ∷ []))) ∷ [])
+      (λ _. SurfacesField.from.clauses) SurfacesFieldCode.from.Symbol.code
+      SurfacesField.from.Key.name (λ (maybe, _). surfaces_field maybe)
+  pub WhenWhereFields-from : Gives M 0 (value WhenWhere.the_row ∷ [])
+      (λ _. WhenWhereFields.from.clauses) WhenWhereFieldsCode.from.Symbol.code
+      WhenWhereFields.from.Key.name (λ (told, _). when_where_numbers told)
 
 -- in memory of every kind
 abbrev pub EachGivesItsDefinition : Type 2
@@ -471,6 +522,13 @@ pub record HasTheCode (γ : Env) : Type 0 where
   pub buttresk_when_and_where : Wired γ buttresk_code.buttresk_when_and_where.Symbol.code
   pub buttresk_representation : Wired γ buttresk_code.buttresk_representation.Symbol.code
   pub buttresk_bit_map : Wired γ buttresk_code.buttresk_bit_map.Symbol.code
+  pub StoreAnswer-from : Wired γ StoreAnswerCode.from.Symbol.code
+  pub ReadAnswer-from : Wired γ ReadAnswerCode.from.Symbol.code
+  pub OctetField-from : Wired γ OctetFieldCode.from.Symbol.code
+  pub TimeField-from : Wired γ TimeFieldCode.from.Symbol.code
+  pub Surface-from : Wired γ SurfaceCode.from.Symbol.code
+  pub SurfacesField-from : Wired γ SurfacesFieldCode.from.Symbol.code
+  pub WhenWhereFields-from : Wired γ WhenWhereFieldsCode.from.Symbol.code
 
 -- .. and there is one that has all of it
 abbrev pub CodeIsThere : Type 0

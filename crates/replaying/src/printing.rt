@@ -1,8 +1,13 @@
 // What is printed: the pieces of a line. A write that fails is answered to the caller, and so on up
 // to `main`. What prints answers nothing else, so it has no `ensures`.
+ghost use Rattle.std.specs.Prelude.{◌≡◌};
+ghost use Rattle.replaying.specs.Hexadecimal.{two_digits};
+
 use index::{End, Outcome, end_of};
 use std::io;
 use std::io::Write;
+
+const DIGITS: [u8; 16] = *b"0123456789abcdef";
 
 pub(crate) fn text(out: &mut impl io::Write, words: &[u8]) -> io::Result<()> {
     out.write_all(words)
@@ -37,9 +42,17 @@ pub(crate) fn hex(out: &mut impl io::Write, octets: &[u8]) -> io::Result<()> {
         text(out, b"-")?;
     }
     for octet in octets {
-        write!(out, "{octet:02x}")?;
+        text(out, &two_digits(*octet))?;
     }
     Ok(())
+}
+
+// By hand, for its speed: a destination has up to 262,144 octets, and `write!` takes three times as
+// many instructions for one.
+fn two_digits(octet: u8) -> [u8; 2]
+    ensures { result ≡ two_digits octet }
+{
+    [DIGITS[(octet / 16) as usize], DIGITS[(octet % 16) as usize]]
 }
 
 // Document 01's outcome, place, offset and detail of a walk's end.

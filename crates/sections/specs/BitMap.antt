@@ -1,4 +1,4 @@
--- The field of section 6 (01, "Some").
+-- The field of section 6 (01, "Fields").
 use Rattle.std.specs.Prelude.{ℕ, List, ltb, length, get_or, Option, Some, None}
 use Rattle.octets.specs.Words.{pick}
 use Rattle.sections.specs.Kinds.{least_bit_map}

@@ -1,4 +1,4 @@
--- The fields of section 3, octets of the payload from 0 (01, "Some").
+-- The fields of section 3, octets of the payload from 0 (01, "Fields").
 use Rattle.std.specs.Prelude.{ℕ, List, ltb, length, Option, Some, None}
 use Rattle.octets.specs.Words.{pick}
 use Rattle.octets.specs.BigEndian.{be_at}

@@ -1,4 +1,4 @@
--- The fields of section 0, from its own octets (01, "Some"; the Manual, section 0, octets 7 and
+-- The fields of section 0, from its own octets (01, "Fields"; the Manual, section 0, octets 7 and
 -- 9 to 16).
 use Rattle.std.specs.Prelude.{ℕ, List, ltb, length, get_or, Option, Some, None}
 use Rattle.octets.specs.Words.{pick}

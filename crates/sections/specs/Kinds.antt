@@ -1,4 +1,4 @@
--- The nine section kinds (01, "Framing" and "(Option ℕ) octets and the public copy"; the Manual's
+-- The nine section kinds (01, "Framing" and "Values octets and the public copy"; the Manual's
 -- names). A size or a number of the format stands here, and other definitions cite it by its name.
 use Rattle.std.specs.Prelude.{ℕ, List, [], ◌∷◌, eqb, Option, Some, None}
 use Rattle.octets.specs.Words.{pick}
