@@ -47,8 +47,8 @@ pub(crate) fn hex(out: &mut impl io::Write, octets: &[u8]) -> io::Result<()> {
     Ok(())
 }
 
-// By hand, for its speed: a destination has up to 262,144 octets, and `write!` takes three times as
-// many instructions for one.
+// By hand, for its speed: a destination has up to 262,144 octets, and `write!` takes several times
+// as many instructions for one.
 fn two_digits(octet: u8) -> [u8; 2]
     ensures { result ≡ two_digits octet }
 {
